@@ -2,3 +2,6 @@
 mod types;
 
 pub use types::Primitive;
+pub use types::PrimitiveDebug;
+pub use types::PrimitiveDisplay;
+pub use types::PrimitivePartialEq;

@@ -31,6 +31,9 @@ pub const MOST_LABELS: usize = 32;
 
 pub const MOST_NODES: usize = 1024;
 
+// The longest file: three counts, the locals and the nodes.
+pub const MOST_BYTES: usize = 14_406;
+
 // The part of N bytes at an offset.
 fn chunk_at<const N: usize>(bytes: &[u8], at: u16) -> Result<&[u8; N], FileFault>
     ensures { λ r. ⌜ Cases r (λ x. (x .now ≡ part at N (now (bytes .entry))) × (at + N ≤ length (now (bytes .entry)))) (λ e. (e ≡ Cut at) × (length (now (bytes .entry)) < at + N)) ⌝ }

@@ -1,0 +1,2 @@
+pub mod Climb
+pub mod Texts

@@ -1,0 +1,118 @@
+// A script as an operator reads it: its locals by type, its labels, and its nodes, each indented below its parent.
+ghost use mathlib.Core.Path.{_≡_};
+ghost use Rattle.observe.specs.Depth.{depth-of};
+use java::Primitive;
+use java::PrimitiveDisplay;
+use script::Chan;
+use script::ChanDisplay;
+use script::Kind;
+use script::KindDisplay;
+use script::Lab;
+use script::LabDisplay;
+use script::Loc;
+use script::LocDisplay;
+use script::Node;
+use script::Pos;
+use std::fmt;
+
+// What was read of a file.
+#[derive(Clone, Copy)]
+pub struct Listing<'a> {
+    pub types: &'a [Primitive],
+    pub labels: u16,
+    pub nodes: &'a [Node],
+}
+
+pub impl<'a> fmt::Display for Listing<'a> as ListingDisplay {
+    fn fmt<W: fmt::Write>(&self, f: &mut fmt::Formatter<W>) -> fmt::Result {
+        let locals = self.types.len();
+        let labels = self.labels;
+        let nodes = self.nodes.len();
+        writeln!(f, "locals: {locals}")?;
+        for (i, of_type) in self.types.iter().enumerate() {
+            writeln!(f, "{i:>5}  {of_type}")?;
+        }
+        writeln!(f, "labels: {labels}")?;
+        writeln!(f, "nodes: {nodes}")?;
+        writeln!(f, "place    up   end  detail  number  kind")?;
+        for (place, node) in (0..u16::MAX).zip(self.nodes.iter()) {
+            let line = Line {
+                place: Pos(place),
+                depth: depth_at(self.nodes, place),
+                node: *node,
+            };
+            writeln!(f, "{line}")?;
+        }
+        Ok(())
+    }
+}
+
+// How many nodes stand above a place, going by what the file says: a node whose parent is not before it has none.
+fn depth_at(nodes: &[Node], place: u16) -> u16
+    ensures { λ r. ⌜ r ≡ depth-of (now (nodes .entry)) place ⌝ }
+{
+    let mut above = 0;
+    let mut at = place;
+    while let Some(node) = nodes.get(at as usize) {
+        if node.up.0 >= at {
+            break;
+        }
+        at = node.up.0;
+        above += 1;
+    }
+    above
+}
+
+// One node of a listing.
+#[derive(Clone, Copy)]
+pub struct Line {
+    pub place: Pos,
+    pub depth: u16,
+    pub node: Node,
+}
+
+pub impl fmt::Display for Line as LineDisplay {
+    fn fmt<W: fmt::Write>(&self, f: &mut fmt::Formatter<W>) -> fmt::Result {
+        let place = self.place.0;
+        let up = self.node.up.0;
+        let end = self.node.end.0;
+        let detail = self.node.detail;
+        let number = self.node.number;
+        write!(f, "{place:>5} {up:>5} {end:>5}  {detail:>6}  {number:>6}  ")?;
+        for _ in 0..self.depth {
+            f.write_str("  ")?;
+        }
+        match Kind::from_code(self.node.kind) {
+            Some(kind) => {
+                write!(f, "{kind}")?;
+                show_named(kind, number, f)
+            }
+            None => {
+                let code = self.node.kind;
+                write!(f, "kind {code}")
+            }
+        }
+    }
+}
+
+// The local, label or channel that a node names by its number.
+fn show_named<W: fmt::Write>(kind: Kind, number: i64, f: &mut fmt::Formatter<W>) -> fmt::Result {
+    let Ok(number) = u8::try_from(number) else {
+        return Ok(());
+    };
+    match kind {
+        Kind::Local | Kind::Assignment | Kind::Declaration => {
+            let local = Loc(number);
+            write!(f, " {local}")
+        }
+        Kind::Labelled | Kind::Break | Kind::Continue => {
+            let label = Lab(number);
+            write!(f, " {label}")
+        }
+        Kind::Reading => {
+            let channel = Chan(number);
+            write!(f, " {channel}")
+        }
+        _ => Ok(()),
+    }
+}

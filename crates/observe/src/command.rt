@@ -1,6 +1,4 @@
 // What the operator asks for, in words.
-ghost use Rattle.std.specs.Of.String.{string-bytes};
-ghost use mathlib.Core.List.{map};
 ghost use Rattle.observe.specs.Words.{Meant};
 use std::fmt;
 
@@ -22,7 +20,7 @@ pub enum Misuse<'a> {
 }
 
 pub fn understand(words: &[String]) -> Result<Command<'_>, Misuse<'_>>
-    ensures { λ r. ⌜ Meant (map string-bytes (now (words .entry))) r ⌝ }
+    ensures { λ r. ⌜ Meant (now (words .entry)) r ⌝ }
 {
     let Some(word) = words.get(0) else {
         return Err(Misuse::NoWord);

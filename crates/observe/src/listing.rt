@@ -83,10 +83,7 @@ pub impl fmt::Display for Line as LineDisplay {
             f.write_str("  ")?;
         }
         match Kind::from_code(self.node.kind) {
-            Some(kind) => {
-                write!(f, "{kind}")?;
-                show_named(kind, number, f)
-            }
+            Some(kind) => show_kind(kind, self.node, f),
             None => {
                 let code = self.node.kind;
                 write!(f, "kind {code}")
@@ -95,24 +92,34 @@ pub impl fmt::Display for Line as LineDisplay {
     }
 }
 
-// The local, label or channel that a node names by its number.
-fn show_named<W: fmt::Write>(kind: Kind, number: i64, f: &mut fmt::Formatter<W>) -> fmt::Result {
-    let Ok(number) = u8::try_from(number) else {
-        return Ok(());
-    };
+// A kind by its name, with the type, local, label or channel that the node names.
+fn show_kind<W: fmt::Write>(kind: Kind, node: Node, f: &mut fmt::Formatter<W>) -> fmt::Result {
+    match (kind, u8::try_from(node.number)) {
+        (Kind::Literal, _) => show_literal(node, f),
+        (_, Ok(number)) => show_numbered(kind, number, f),
+        _ => write!(f, "{kind}"),
+    }
+}
+
+fn show_numbered<W: fmt::Write>(kind: Kind, number: u8, f: &mut fmt::Formatter<W>) -> fmt::Result {
+    let local = Loc(number);
+    let label = Lab(number);
+    let channel = Chan(number);
     match kind {
-        Kind::Local | Kind::Assignment | Kind::Declaration => {
-            let local = Loc(number);
-            write!(f, " {local}")
-        }
-        Kind::Labelled | Kind::Break | Kind::Continue => {
-            let label = Lab(number);
-            write!(f, " {label}")
-        }
-        Kind::Reading => {
-            let channel = Chan(number);
-            write!(f, " {channel}")
-        }
-        _ => Ok(()),
+        Kind::Local => write!(f, "{local}"),
+        Kind::Declaration => write!(f, "{kind} of {local}"),
+        Kind::Assignment => write!(f, "{kind} to {local}"),
+        Kind::Reading => write!(f, "{kind} of {channel}"),
+        Kind::Labelled => write!(f, "{kind} by {label}"),
+        Kind::Break | Kind::Continue => write!(f, "{kind} to {label}"),
+        _ => write!(f, "{kind}"),
+    }
+}
+
+fn show_literal<W: fmt::Write>(node: Node, f: &mut fmt::Formatter<W>) -> fmt::Result {
+    let kind = Kind::Literal;
+    match Primitive::from_code(node.detail) {
+        Some(of_type) => write!(f, "{kind} of {of_type}"),
+        None => write!(f, "{kind}"),
     }
 }

@@ -1,4 +1,7 @@
 // `observe show`: reads a script file, and says what it is.
+ghost use mathlib.Core.Path.{_≡_};
+ghost use Rattle.observe.specs.Said.{Fails, Said};
+ghost use Rattle.observe.specs.declared.show.ShowFault.the-variants.{Refused};
 use crate::listing::Listing;
 use crate::listing::ListingDisplay;
 use java::Primitive;
@@ -39,19 +42,25 @@ pub impl fmt::Display for ShowFault as ShowFaultDisplay {
 }
 
 pub impl From<FileFault> for ShowFault as ShowFaultFromFile {
+    ghost converts = { λ fault r. r ≡ Refused fault };
+
     fn from(fault: FileFault) -> ShowFault {
         ShowFault::Refused(fault)
     }
 }
 
 pub impl From<AllocError> for ShowFault as ShowFaultFromAlloc {
+    ghost converts = { λ _ r. Fails r };
+
     fn from(error: AllocError) -> ShowFault {
         ShowFault::Failed(io::Error::from(error))
     }
 }
 
 // All that is said of a file with these bytes.
-pub fn text_of(heap: Global, path: &str, bytes: &[u8]) -> Result<String, ShowFault> {
+pub fn text_of(heap: Global, path: &str, bytes: &[u8]) -> Result<String, ShowFault>
+    ensures { λ r. ⌜ Said (now (bytes .entry)) r ⌝ }
+{
     let mut types = [Primitive::Boolean; MOST_LOCALS];
     let mut nodes = [Node {
         kind: 0,
@@ -67,7 +76,8 @@ pub fn text_of(heap: Global, path: &str, bytes: &[u8]) -> Result<String, ShowFau
         nodes: &nodes[0..sizes.nodes as usize],
     };
     let size = bytes.len();
-    Ok(format!(heap, "{listing}{path}: a whole script of {size} bytes\n")?)
+    let text = format!(heap, "{listing}read {path} whole: {size} bytes\n")?;
+    Ok(text)
 }
 
 // At most one byte more than the longest script file has: what follows does not change the answer.

@@ -18,7 +18,7 @@ use Rattle.script.specs.declared.file.Sizes.{Sizes}
 use Rattle.script.specs.declared.node.Node.{Node}
 use Rattle.script.specs.Format.{Script, Within, file}
 use Rattle.script.specs.Laws.{Cut-short, Exact, FileOf}
-use Rattle.script.specs.Reading.{answer, count-at, entries, mapped, node-at, placed, script-in, sizes-of, type-at}
+use Rattle.script.specs.Reading.{There, answer, count-at, entries, mapped, node-at, placed, script-in, sizes-of, type-at}
 use Rattle.script.proofs.Bytes.{Octets}
 use Rattle.script.proofs.OfFile.{file-read}
 use Rattle.script.proofs.Sections.{Parts, script-parts, section-parts}
@@ -79,7 +79,7 @@ module _ (types nodes : ℕ) (bs : List ℕ) (bytes : Octets bs) where
         then-ok (placed types nodes) (p .1) ∙ cond-true (ltb types (length (s .locals)) || ltb nodes (length (s .nodes))) (Err Room) (Ok s) full
 
     -- what was tested is there to be written
-    pub record Tested : Type 0 where
+    record Tested : Type 0 where
       pub script : Script
       pub read : script-in bs ≡ Ok script
       pub sizes : sizes-of script ≡ z
@@ -88,7 +88,7 @@ module _ (types nodes : ℕ) (bs : List ℕ) (bytes : Octets bs) where
       pub types-there : entries (type-at bs) 1 2 (z .locals) ≡ Ok (script .locals)
       pub nodes-there : entries (node-at bs) 14 (6 + z .locals) (z .nodes) ≡ Ok (script .nodes)
 
-    pub tested : Tested
+    tested : Tested
     tested =
         let p = mapped-parts sizes-of (script-in bs) sized in
         let s = p .0 in
@@ -124,7 +124,7 @@ module _ (types nodes : ℕ) (bs : List ℕ) (bytes : Octets bs) where
       pub answer-sizes : mapped sizes-of (answer types nodes bs) ≡ Ok z
       answer-sizes = ap (mapped sizes-of) whole ∙ ap (λ (y : Sizes). Ok y) (tested .sizes)
 
-      pub answer-right : (written : List Primitive) (put : List Node)
+      answer-right : (written : List Primitive) (put : List Node)
           → entries (type-at bs) 1 2 (z .locals) ≡ Ok written → entries (node-at bs) 14 (6 + z .locals) (z .nodes) ≡ Ok put
           → answer types nodes bs ≡ Ok (record { locals = written; labels = z .labels; nodes = put })
       answer-right written put e f =
@@ -134,3 +134,14 @@ module _ (types nodes : ℕ) (bs : List ℕ) (bytes : Octets bs) where
           let ts : s .locals ≡ written = let h = t .types-there in cc in
           let xs : s .nodes ≡ put = let h = t .nodes-there in cc in
           whole ∙ (λ i. Ok (record { locals = ts i; labels = k i; nodes = xs i }))
+
+      pub answer-there : There types nodes bs z
+      answer-there = record {
+        types-fit = a;
+        nodes-fit = b;
+        few-types = tested .few-locals;
+        few-nodes = tested .few-nodes;
+        types-right = ap isOk (tested .types-there);
+        nodes-right = ap isOk (tested .nodes-there);
+        whole = answer-right;
+      }

@@ -25,7 +25,7 @@ use Rattle.script.specs.declared.fault.FileFault.{FileFault}
 use Rattle.script.specs.declared.fault.FileFault.the-variants.{Cut, Count, TypeCode}
 use Rattle.script.specs.declared.node.Node.{Node}
 use Rattle.script.specs.Format.{Script, Fits, Within, bytes-of, number-of, part, type-bytes, node-bytes, node-of, file}
-use Rattle.script.specs.Reading.{and-then, chunk-at, limited, count-at, type-at, node-at, end-at, entries, section, script-in}
+use Rattle.script.specs.Reading.{and-then, locals-in, labels-in, nodes-in, chunk-at, limited, count-at, type-at, node-at, end-at, entries, section, script-in}
 use Rattle.script.proofs.Bytes.{length-bytes-of, number-of-bytes-of, part-between}
 use Rattle.script.proofs.Sections.{Parts, section-of, script-from-parts}
 use Rattle.script.proofs.Then.{then-ok}

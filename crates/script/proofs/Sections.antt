@@ -11,7 +11,7 @@ use Rattle.script.specs.declared.fault.FileFault.{FileFault}
 use Rattle.script.specs.declared.file.Sizes.{Sizes}
 use Rattle.script.specs.declared.node.Node.{Node}
 use Rattle.script.specs.Format.{Script}
-use Rattle.script.specs.Reading.{and-then, mapped, count-at, type-at, node-at, end-at, entries, section, script-in, sizes-of, tested}
+use Rattle.script.specs.Reading.{and-then, mapped, locals-in, labels-in, nodes-in, count-at, type-at, node-at, end-at, entries, section, script-in, sizes-of, tested}
 use Rattle.script.proofs.Then.{then-ok, then-err, then-parts, mapped-fault, mapped-parts}
 
 -- as many entries as there should be
@@ -56,10 +56,10 @@ from-end bs locals labels nodes =
     and-then (end-at bs (6 + locals + nodes * 14)) (λ _. Ok (record { locals = locals; labels = labels; nodes = nodes }))
 
 abbrev pub from-nodes : List ℕ → ℕ → ℕ → Result Sizes FileFault
-from-nodes bs locals labels = and-then (mapped length (section bs node-at 14 (4 + locals) 1 1024)) (from-end bs locals labels)
+from-nodes bs locals labels = and-then (mapped length (nodes-in bs locals)) (from-end bs locals labels)
 
 abbrev pub from-labels : List ℕ → ℕ → Result Sizes FileFault
-from-labels bs locals = and-then (count-at bs (2 + locals) 0 32) (from-nodes bs locals)
+from-labels bs locals = and-then (labels-in bs locals) (from-nodes bs locals)
 
 -- the sizes of what is read depend on the sections' sizes alone
 module _ (labels-at : ℕ → Result ℕ FileFault) (nodes-at : ℕ → Result (List Node) FileFault) (end-of : ℕ → ℕ → Result (Unit {0}) FileFault) where
@@ -87,11 +87,11 @@ module _ (labels-at : ℕ → Result ℕ FileFault) (nodes-at : ℕ → Result (
   sized-locals (Ok locals) = sized-labels locals (labels-at (length locals))
   sized-locals (Err e) = refl
 
-pub script-sizes : (bs : List ℕ) → mapped sizes-of (script-in bs) ≡ and-then (mapped length (section bs type-at 1 0 0 64)) (from-labels bs)
+pub script-sizes : (bs : List ℕ) → mapped sizes-of (script-in bs) ≡ and-then (mapped length (locals-in bs)) (from-labels bs)
 unfolding script-in
 script-sizes bs =
-    sized-locals (λ locals. count-at bs (2 + locals) 0 32) (λ locals. section bs node-at 14 (4 + locals) 1 1024)
-    (λ locals nodes. end-at bs (6 + locals + nodes * 14)) (section bs type-at 1 0 0 64)
+    sized-locals (λ locals. labels-in bs locals) (λ locals. nodes-in bs locals)
+    (λ locals nodes. end-at bs (6 + locals + nodes * 14)) (locals-in bs)
 
 -- what is left to read once the locals, the labels or the nodes are read
 abbrev pub then-end : List ℕ → List Primitive → ℕ → List Node → Result Script FileFault
@@ -99,20 +99,20 @@ then-end bs locals labels nodes =
     and-then (end-at bs (6 + length locals + length nodes * 14)) (λ _. Ok (record { locals = locals; labels = labels; nodes = nodes }))
 
 abbrev pub then-nodes : List ℕ → List Primitive → ℕ → Result Script FileFault
-then-nodes bs locals labels = and-then (section bs node-at 14 (4 + length locals) 1 1024) (then-end bs locals labels)
+then-nodes bs locals labels = and-then (nodes-in bs (length locals)) (then-end bs locals labels)
 
 abbrev pub then-labels : List ℕ → List Primitive → Result Script FileFault
-then-labels bs locals = and-then (count-at bs (2 + length locals) 0 32) (then-nodes bs locals)
+then-labels bs locals = and-then (labels-in bs (length locals)) (then-nodes bs locals)
 
-pub script-stages : (bs : List ℕ) → script-in bs ≡ and-then (section bs type-at 1 0 0 64) (then-labels bs)
+pub script-stages : (bs : List ℕ) → script-in bs ≡ and-then (locals-in bs) (then-labels bs)
 unfolding script-in
 script-stages bs = refl
 
 -- each section of a script that was read, and nothing behind them
 pub record Parts (bs : List ℕ) (s : Script) : Type 0 where
-  pub locals : section bs type-at 1 0 0 64 ≡ Ok (s .locals)
-  pub labels : count-at bs (2 + length (s .locals)) 0 32 ≡ Ok (s .labels)
-  pub nodes : section bs node-at 14 (4 + length (s .locals)) 1 1024 ≡ Ok (s .nodes)
+  pub locals : locals-in bs ≡ Ok (s .locals)
+  pub labels : labels-in bs (length (s .locals)) ≡ Ok (s .labels)
+  pub nodes : nodes-in bs (length (s .locals)) ≡ Ok (s .nodes)
   pub end : end-at bs (6 + length (s .locals) + length (s .nodes) * 14) ≡ Ok tt
 
 pub script-from-parts : (bs : List ℕ) (s : Script) → Parts bs s → script-in bs ≡ Ok s
@@ -122,9 +122,9 @@ script-from-parts bs s p =
 
 pub script-parts : (bs : List ℕ) (s : Script) → script-in bs ≡ Ok s → Parts bs s
 script-parts bs s h =
-    let p = then-parts (section bs type-at 1 0 0 64) (then-labels bs) (sym (script-stages bs) ∙ h) in
-    let q = then-parts (count-at bs (2 + length (p .0)) 0 32) (then-nodes bs (p .0)) (p .2) in
-    let r = then-parts (section bs node-at 14 (4 + length (p .0)) 1 1024) (then-end bs (p .0) (q .0)) (q .2) in
+    let p = then-parts (locals-in bs) (then-labels bs) (sym (script-stages bs) ∙ h) in
+    let q = then-parts (labels-in bs (length (p .0))) (then-nodes bs (p .0)) (p .2) in
+    let r = then-parts (nodes-in bs (length (p .0))) (then-end bs (p .0) (q .0)) (q .2) in
     let t = then-parts (end-at bs (6 + length (p .0) + length (r .0) * 14)) (λ _. Ok (record { locals = p .0; labels = q .0; nodes = r .0 })) (r .2) in
     let e : record { locals = p .0; labels = q .0; nodes = r .0 } ≡ s = let k = t .2 in cc in
     subst (Parts bs) e (record { locals = p .1; labels = q .1; nodes = r .1; end = t .1 })

@@ -16,7 +16,7 @@ use Rattle.java.specs.Types.{type-of}
 use Rattle.script.specs.declared.fault.FileFault.{FileFault}
 use Rattle.script.specs.declared.fault.FileFault.the-variants.{Cut, Count, TypeCode, Trailing}
 use Rattle.script.specs.Format.{Script, Within, number-of, node-of, part, file}
-use Rattle.script.specs.Reading.{and-then, chunk-at, limited, count-at, type-at, node-at, end-at, entries, section, script-in}
+use Rattle.script.specs.Reading.{and-then, locals-in, labels-in, nodes-in, chunk-at, limited, count-at, type-at, node-at, end-at, entries, section, script-in}
 use Rattle.script.proofs.Bytes.{Octets}
 use Rattle.script.proofs.OfFile.{file-parts}
 use Rattle.script.proofs.Sections.{Parts, then-end, then-nodes, then-labels, script-stages}
@@ -95,7 +95,7 @@ module _ (bs lost : List ℕ) where
       n : ℕ
       n = length (s .nodes)
 
-      no-end : section bs type-at 1 0 0 64 ≡ Ok (s .locals) → count-at bs (2 + l) 0 32 ≡ Ok (s .labels) → section bs node-at 14 (4 + l) 1 1024 ≡ Ok (s .nodes) → ⊥
+      no-end : locals-in bs ≡ Ok (s .locals) → labels-in bs l ≡ Ok (s .labels) → nodes-in bs l ≡ Ok (s .nodes) → ⊥
       no-end a b c =
           let o = 6 + l + n * 14 in
           let reached : length (bs ++ lost) ≤ o = ltb-false o (length (bs ++ lost)) (passed (ltb o (length (bs ++ lost))) (Trailing o) tt (whole .end) .0) in
@@ -103,16 +103,16 @@ module _ (bs lost : List ℕ) where
           let same = read-file bs bytes s (record { locals = a; labels = b; nodes = c; end = end }) in
           omega (arith, ap length (same .0 ∙ sym e), length-append bs lost)
 
-      nodes : section bs type-at 1 0 0 64 ≡ Ok (s .locals) → count-at bs (2 + l) 0 32 ≡ Ok (s .labels)
-          → Shorter (section bs node-at 14 (4 + l) 1 1024) (section (bs ++ lost) node-at 14 (4 + l) 1 1024) → (o : ℕ) × (script-in bs ≡ Err (Cut o))
+      nodes : locals-in bs ≡ Ok (s .locals) → labels-in bs l ≡ Ok (s .labels)
+          → Shorter (nodes-in bs l) (nodes-in (bs ++ lost) l) → (o : ℕ) × (script-in bs ≡ Err (Cut o))
       nodes a b (inl c) = absurd (no-end a b (c ∙ whole .nodes))
       nodes a b (inr c) =
           (c .0, script-stages bs ∙ then-ok (then-labels bs) a ∙ then-ok (then-nodes bs (s .locals)) b ∙ then-err (then-end bs (s .locals) (s .labels)) (c .1))
 
-      labels : section bs type-at 1 0 0 64 ≡ Ok (s .locals) → Shorter (count-at bs (2 + l) 0 32) (count-at (bs ++ lost) (2 + l) 0 32) → (o : ℕ) × (script-in bs ≡ Err (Cut o))
+      labels : locals-in bs ≡ Ok (s .locals) → Shorter (labels-in bs l) (labels-in (bs ++ lost) l) → (o : ℕ) × (script-in bs ≡ Err (Cut o))
       labels a (inl b) = nodes a (b ∙ whole .labels) (section-shorter node-at 14 node-shorter (4 + l) 1 1024)
       labels a (inr b) = (b .0, script-stages bs ∙ then-ok (then-labels bs) a ∙ then-err (then-nodes bs (s .locals)) (b .1))
 
-      locals : Shorter (section bs type-at 1 0 0 64) (section (bs ++ lost) type-at 1 0 0 64) → (o : ℕ) × (script-in bs ≡ Err (Cut o))
+      locals : Shorter (locals-in bs) (locals-in (bs ++ lost)) → (o : ℕ) × (script-in bs ≡ Err (Cut o))
       locals (inl a) = labels (a ∙ whole .locals) (count-shorter (2 + l) 0 32)
       locals (inr a) = (a .0, script-stages bs ∙ then-err (then-labels bs) (a .1))

@@ -28,7 +28,7 @@ use Rattle.script.specs.declared.fault.FileFault.{FileFault}
 use Rattle.script.specs.declared.fault.FileFault.the-variants.{Cut, Count, TypeCode, Trailing}
 use Rattle.script.specs.declared.node.Node.{Node}
 use Rattle.script.specs.Format.{Script, Fits, Within, bytes-of, number-of, part, type-bytes, node-bytes, node-of, file}
-use Rattle.script.specs.Reading.{and-then, chunk-at, limited, count-at, type-at, node-at, end-at, entries, section, script-in}
+use Rattle.script.specs.Reading.{and-then, locals-in, labels-in, nodes-in, chunk-at, limited, count-at, type-at, node-at, end-at, entries, section, script-in}
 use Rattle.script.proofs.Bytes.{Octets, bytes-of-number-of, number-of-small, length-part, part-part}
 use Rattle.script.proofs.Sections.{Parts, section-parts}
 use Rattle.script.proofs.Then.{passed, then-parts}

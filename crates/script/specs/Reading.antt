@@ -1,11 +1,12 @@
 -- What reading answers, from front to back: a script, or the first fault.
 use mathlib.Core.Path.{_≡_}
-use mathlib.Core.Bool.{Bool, cond, _||_}
+use mathlib.Core.Bool.{Bool, true, cond, _||_}
 use mathlib.Core.List.{List, [], _∷_, _++_}
 use Prim.Native.Nat.{ℕ, zero, suc, _+_, _*_, _≤_, _<_}
 use lib.Dec.{ltb}
 use lib.ListN.{length, getD, take, drop}
 use Rattle.std.specs.Options.{okOr}
+use Rattle.std.specs.Results.{isOk}
 use Rattle.std.specs.declared.result.Result.{Result}
 use Rattle.std.specs.declared.result.Result.the-variants.{Ok, Err}
 use Rattle.java.specs.declared.types.Primitive.{Primitive}
@@ -52,12 +53,22 @@ entries at size o (suc n) = and-then (at o) (λ x. and-then (entries at size (o 
 unfoldable pub section : {X : Type 0} → List ℕ → (List ℕ → ℕ → Result X FileFault) → ℕ → ℕ → ℕ → ℕ → Result (List X) FileFault
 section bs at size o least most = and-then (count-at bs o least most) (entries (at bs) size (o + 2))
 
--- the script of a file: the sections of the locals, of the labels (a count alone) and of the nodes, and nothing behind them
+-- the three sections: 0 to 64 locals, the count of 0 to 32 labels, and 1 to 1,024 nodes
+abbrev pub locals-in : List ℕ → Result (List Primitive) FileFault
+locals-in bs = section bs type-at 1 0 0 64
+
+abbrev pub labels-in : List ℕ → ℕ → Result ℕ FileFault
+labels-in bs locals = count-at bs (2 + locals) 0 32
+
+abbrev pub nodes-in : List ℕ → ℕ → Result (List Node) FileFault
+nodes-in bs locals = section bs node-at 14 (4 + locals) 1 1024
+
+-- the script of a file: its sections, and nothing behind them
 unfoldable pub script-in : List ℕ → Result Script FileFault
 script-in bs =
-    and-then (section bs type-at 1 0 0 64) (λ locals.
-    and-then (count-at bs (2 + length locals) 0 32) (λ labels.
-    and-then (section bs node-at 14 (4 + length locals) 1 1024) (λ nodes.
+    and-then (locals-in bs) (λ locals.
+    and-then (labels-in bs (length locals)) (λ labels.
+    and-then (nodes-in bs (length locals)) (λ nodes.
     and-then (end-at bs (6 + length locals + length nodes * 14)) (λ _.
     Ok (record { locals = locals; labels = labels; nodes = nodes })))))
 
@@ -84,6 +95,18 @@ sizes-of s = record { locals = length (s .locals); labels = s .labels; nodes = l
 -- the script at the front of two tables
 abbrev pub front : Sizes → List Primitive → List Node → Script
 front z types nodes = record { locals = take (z .locals) types; labels = z .labels; nodes = take (z .nodes) nodes }
+
+-- a file was tested: its entries can be read, the tables have room for them, and they make the script that is answered
+pub record There (types nodes : ℕ) (bs : List ℕ) (z : Sizes) : Type 0 where
+  pub types-fit : z .locals ≤ types
+  pub nodes-fit : z .nodes ≤ nodes
+  pub few-types : z .locals ≤ 64
+  pub few-nodes : z .nodes ≤ 1024
+  pub types-right : isOk (entries (type-at bs) 1 2 (z .locals)) ≡ true
+  pub nodes-right : isOk (entries (node-at bs) 14 (6 + z .locals) (z .nodes)) ≡ true
+  pub whole : (written : List Primitive) (put : List Node)
+      → entries (type-at bs) 1 2 (z .locals) ≡ Ok written → entries (node-at bs) 14 (6 + z .locals) (z .nodes) ≡ Ok put
+      → answer types nodes bs ≡ Ok (record { locals = written; labels = z .labels; nodes = put })
 
 -- what reading leaves in tables that held types and nodes, and now hold types′ and nodes′: the script at their fronts, and the rest as it was; or all as it was
 abbrev pub Leaves : List Primitive → List Primitive → List Node → List Node → Result Script FileFault → Result Sizes FileFault → Type 0

@@ -10,9 +10,9 @@ ghost use Rattle.std.specs.declared.result.Result.the-variants.{Ok};
 ghost use Rattle.std.specs.Vec.{made};
 ghost use Rattle.script.specs.declared.fault.FileFault.{FileFault};
 ghost use Rattle.script.specs.declared.fault.FileFault.the-variants.{Cut};
-ghost use Rattle.script.specs.Format.{part};
+ghost use Rattle.script.specs.Format.{Script, part};
 ghost use Rattle.script.specs.Laws.{Cut-short, Exact};
-ghost use Rattle.script.specs.Reading.{Leaves, answer, count-at, end-at, entries, front, mapped, node-at, script-in, section, sizes-of, tested, type-at};
+ghost use Rattle.script.specs.Reading.{Leaves, There, answer, count-at, end-at, entries, front, labels-in, locals-in, mapped, node-at, nodes-in, script-in, section, sizes-of, tested, type-at};
 use crate::fault::FileFault;
 use crate::node::Node;
 use java::Primitive;
@@ -136,19 +136,54 @@ fn test_end(bytes: &[u8], at: u16) -> Result<(), FileFault>
     Ok(())
 }
 
+fn locals_in(bytes: &[u8]) -> Result<u16, FileFault>
+    ensures value { λ r. ⌜ r ≡ mapped length (locals-in (now (bytes .entry))) ⌝ }
+    ensures limits { λ r. ⌜ made r (λ n. n ≤ 64) ⌝ }
+{
+    section_at::<Primitive>(bytes, 0, 0, MOST_LOCALS as u16)
+}
+
+fn labels_in(bytes: &[u8], locals: u16) -> Result<u16, FileFault>
+    requires { ⌜ locals ≤ 64 ⌝ }
+    ensures { λ r. ⌜ r ≡ labels-in (now (bytes .entry)) locals ⌝ }
+{
+    count_at(bytes, 2 + locals, 0, MOST_LABELS as u16)
+}
+
+fn nodes_in(bytes: &[u8], locals: u16) -> Result<u16, FileFault>
+    requires { ⌜ locals ≤ 64 ⌝ }
+    ensures value { λ r. ⌜ r ≡ mapped length (nodes-in (now (bytes .entry)) locals) ⌝ }
+    ensures limits { λ r. ⌜ made r (λ n. n ≤ 1024) ⌝ }
+{
+    section_at::<Node>(bytes, 4 + locals, 1, MOST_NODES as u16)
+}
+
 // Tests the whole file, and answers what its script takes.
 fn sizes_in(bytes: &[u8]) -> Result<Sizes, FileFault>
     ensures { λ r. ⌜ r ≡ mapped sizes-of (script-in (now (bytes .entry))) ⌝ }
 {
-    let locals = section_at::<Primitive>(bytes, 0, 0, MOST_LOCALS as u16)?;
-    let labels = count_at(bytes, 2 + locals, 0, MOST_LABELS as u16)?;
-    let nodes = section_at::<Node>(bytes, 4 + locals, 1, MOST_NODES as u16)?;
+    let locals = locals_in(bytes)?;
+    let labels = labels_in(bytes, locals)?;
+    let nodes = nodes_in(bytes, locals)?;
     test_end(bytes, 6 + locals + nodes * 14)?;
     Ok(Sizes {
         locals,
         labels,
         nodes,
     })
+}
+
+// Tests the whole file, and last whether tables of so many types and nodes have room for its script.
+fn tested_sizes(bytes: &[u8], types: usize, nodes: usize) -> Result<Sizes, FileFault>
+    ensures value { λ r. ⌜ r ≡ mapped sizes-of (answer types nodes (now (bytes .entry))) ⌝ }
+    ensures there { λ r. ⌜ made r (λ z. There types nodes (now (bytes .entry)) z) ⌝ }
+    ensures lawful { λ _. ⌜ ((script : Result Script FileFault) → script ≡ answer types nodes (now (bytes .entry)) → Exact types nodes (now (bytes .entry)) script × Cut-short (now (bytes .entry)) script) ⌝ }
+{
+    let sizes = sizes_in(bytes)?;
+    if types < sizes.locals as usize || nodes < sizes.nodes as usize {
+        return Err(FileFault::Room);
+    }
+    Ok(sizes)
 }
 
 // Writes so many entries to the front of a table; they have been tested.
@@ -175,10 +210,7 @@ pub fn read(bytes: &[u8], types: &mut [Primitive], nodes: &mut [Node]) -> Result
     ensures exact { λ r. ⌜ Exact (length (now (types .entry))) (length (now (nodes .entry))) (now (bytes .entry)) (mapped (λ z. front z (now (types .exit)) (now (nodes .exit))) r) ⌝ }
     ensures short { λ r. ⌜ Cut-short (now (bytes .entry)) (mapped (λ z. front z (now (types .exit)) (now (nodes .exit))) r) ⌝ }
 {
-    let sizes = sizes_in(bytes)?;
-    if types.len() < sizes.locals as usize || nodes.len() < sizes.nodes as usize {
-        return Err(FileFault::Room);
-    }
+    let sizes = tested_sizes(bytes, types.len(), nodes.len())?;
     fill_entries(bytes, 2, sizes.locals, types);
     fill_entries(bytes, 6 + sizes.locals, sizes.nodes, nodes);
     Ok(sizes)

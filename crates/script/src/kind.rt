@@ -5,7 +5,7 @@ ghost use Rattle.script.specs.declared.kind.Kind.{Kind};
 ghost use Rattle.script.specs.Kinds.{kind-code, kind-name, kind-of};
 use std::fmt;
 
-#[derive(Clone, Copy, PartialEq, Eq, Debug)]
+#[derive(Clone, Copy)]
 pub enum Kind {
     Literal,
     Local,

@@ -10,15 +10,15 @@ use std::fmt;
 pub struct Pos(pub u16);
 
 // A local variable, by its number in the section of the locals.
-#[derive(Clone, Copy, PartialEq, Eq, Debug)]
+#[derive(Clone, Copy)]
 pub struct Loc(pub u8);
 
 // A label, by its number.
-#[derive(Clone, Copy, PartialEq, Eq, Debug)]
+#[derive(Clone, Copy)]
 pub struct Lab(pub u8);
 
 // A channel of readings.
-#[derive(Clone, Copy, PartialEq, Eq, Debug)]
+#[derive(Clone, Copy)]
 pub struct Chan(pub u8);
 
 pub impl fmt::Display for Loc as LocDisplay {

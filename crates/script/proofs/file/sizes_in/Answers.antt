@@ -14,7 +14,7 @@ returns-in-Break-labels c =
     let bs = c .args .bytes .now in
     let exit = c .from-residual-in-Break-labels in
     let locals = sym (c .in-Continue-locals .ensures tt .value) in
-    let wrong = sym (c .in-Break-labels .ensures tt .value) in
+    let wrong = sym (c .in-Break-labels .ensures tt) in
     handed-on (exit .result) _ (exit .ensures .1)
     ∙ sym (script-sizes bs ∙ then-ok (from-labels bs) locals ∙ then-err (from-nodes bs _) wrong)
 
@@ -23,7 +23,7 @@ returns-in-Break-nodes c =
     let bs = c .args .bytes .now in
     let exit = c .from-residual-in-Break-nodes in
     let locals = sym (c .in-Continue-locals .ensures tt .value) in
-    let labels = sym (c .in-Continue-labels .ensures tt .value) in
+    let labels = sym (c .in-Continue-labels .ensures tt) in
     let wrong = sym (c .in-Break-nodes .ensures tt .value) in
     handed-on (exit .result) _ (exit .ensures .1)
     ∙ sym (script-sizes bs ∙ then-ok (from-labels bs) locals ∙ then-ok (from-nodes bs _) labels ∙ then-err (from-end bs _ _) wrong)
@@ -33,7 +33,7 @@ returns-in-Break-test-end c =
     let bs = c .args .bytes .now in
     let exit = c .from-residual-in-Break-test-end in
     let locals = sym (c .in-Continue-locals .ensures tt .value) in
-    let labels = sym (c .in-Continue-labels .ensures tt .value) in
+    let labels = sym (c .in-Continue-labels .ensures tt) in
     let nodes = sym (c .in-Continue-nodes .ensures tt .value) in
     let wrong = sym (c .test-end .ensures) ∙ c .in-Break-test-end .was tt in
     handed-on (exit .result) _ (exit .ensures .1)
@@ -43,7 +43,7 @@ pub returns : need.returns
 returns c =
     let bs = c .args .bytes .now in
     let locals = sym (c .in-Continue-locals .ensures tt .value) in
-    let labels = sym (c .in-Continue-labels .ensures tt .value) in
+    let labels = sym (c .in-Continue-labels .ensures tt) in
     let nodes = sym (c .in-Continue-nodes .ensures tt .value) in
     let end = sym (c .test-end .ensures) ∙ c .in-Continue-test-end .was tt in
     sym (script-sizes bs ∙ then-ok (from-labels bs) locals ∙ then-ok (from-nodes bs _) labels ∙ then-ok (from-end bs _ _) nodes ∙ then-ok _ end)

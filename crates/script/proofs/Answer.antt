@@ -7,8 +7,9 @@ use Prim.Native.Nat.{ℕ, _+_, _≤_, _<_}
 use native.Mathlib.Omega.{arith}
 use lib.Dec.{ltb}
 use lib.ListN.{length}
-use Rattle.std.proofs.shelf.Tests.{cond-false, cond-true, le-ltb, lt-ltb, ltb-false, or-from, or-left, or-parts, or-right}
+use Rattle.std.proofs.shelf.Tests.{cond-false, cond-true, le-ltb, lt-ltb, ltb-false, ltb-true, or-cases, or-from, or-left, or-parts, or-right}
 use Rattle.std.specs.Results.{isOk}
+use Rattle.std.specs.Vec.{refused}
 use Rattle.std.specs.declared.result.Result.{Result}
 use Rattle.std.specs.declared.result.Result.the-variants.{Ok, Err}
 use Rattle.java.specs.declared.types.Primitive.{Primitive}
@@ -17,13 +18,15 @@ use Rattle.script.specs.declared.fault.FileFault.the-variants.{Cut, Room}
 use Rattle.script.specs.declared.file.Sizes.{Sizes}
 use Rattle.script.specs.declared.node.Node.{Node}
 use Rattle.script.specs.Format.{Script, Within, file}
-use Rattle.script.specs.Laws.{Cut-short, Exact, FileOf}
-use Rattle.script.specs.Reading.{There, answer, count-at, entries, mapped, node-at, placed, script-in, sizes-of, type-at}
+use Rattle.script.specs.Laws.{Blamed, Cut-short, Early, Exact, FileOf, Lawful}
+use Rattle.script.specs.Reading.{There, and-then, answer, count-at, entries, mapped, node-at, placed, script-in, sizes-of, type-at}
+use Rattle.script.proofs.Agree.{script-agrees}
+use Rattle.script.proofs.Blame.{blamed}
 use Rattle.script.proofs.Bytes.{Octets}
 use Rattle.script.proofs.OfFile.{file-read}
 use Rattle.script.proofs.Sections.{Parts, script-parts, section-parts}
 use Rattle.script.proofs.Short.{cut-short}
-use Rattle.script.proofs.Then.{mapped-fault, mapped-parts, passed, then-err, then-ok, then-parts}
+use Rattle.script.proofs.Then.{mapped-fault, mapped-parts, passed, stopped, then-err, then-fault, then-ok, then-parts}
 use Rattle.script.proofs.ToFile.{count-parts, read-file}
 
 module _ (types nodes : ℕ) (bs : List ℕ) (bytes : Octets bs) where
@@ -59,9 +62,39 @@ module _ (types nodes : ℕ) (bs : List ℕ) (bytes : Octets bs) where
       let p = cut-short bs lost bytes s w some e in
       (p .0, then-err (placed types nodes) (p .1))
 
-  -- so does every answer that is the same
-  pub lawful : (r : Result Script FileFault) → r ≡ answer types nodes bs → Exact types nodes bs r × Cut-short bs r
-  lawful r e = (subst (Exact types nodes bs) (sym e) exact, subst (Cut-short bs) (sym e) short)
+  early : Early types nodes bs (answer types nodes bs)
+  early other e = ap (λ (r : Result Script FileFault). and-then r (placed types nodes)) (script-agrees other bs e)
+
+  -- a right file finds too little room
+  no-room : (s : Script) → script-in bs ≡ Ok s → placed types nodes s ≡ Err Room → Blamed types nodes bs Room
+  no-room s e h =
+      let rf = read-file bs bytes s (script-parts bs s e) in
+      let p = stopped (ltb types (length (s .locals)) || ltb nodes (length (s .nodes))) Room s h in (
+        s,
+        rf .1,
+        rf .0,
+        ⊎-elim (λ (a : ltb types (length (s .locals)) ≡ true). inl (ltb-true types (length (s .locals)) a))
+            (λ (b : ltb nodes (length (s .nodes)) ≡ true). inr (ltb-true nodes (length (s .nodes)) b)) (or-cases _ _ (p .0)),
+      )
+
+  blames : (f : FileFault) → answer types nodes bs ≡ Err f → Blamed types nodes bs f
+  blames f h =
+      elim (then-fault (script-in bs) (placed types nodes) h) [
+        | inl e ↦ blamed types nodes bs bytes e
+        | inr p ↦
+            let s = p .0 in
+            let q = stopped (ltb types (length (s .locals)) || ltb nodes (length (s .nodes))) Room s (p .2) in
+            subst (Blamed types nodes bs) (q .1) (no-room s (p .1) (p .2 ∙ ap (λ (g : FileFault). Err g) (sym (q .1))))
+      ]
+
+  refusal : (r : Result Script FileFault) → answer types nodes bs ≡ r → refused r (Blamed types nodes bs)
+  refusal (Ok s) h = tt
+  refusal (Err f) h = blames f h
+
+  pub lawful : (r : Result Script FileFault) → r ≡ answer types nodes bs → Lawful types nodes bs r
+  lawful r e =
+      subst (Lawful types nodes bs) (sym e)
+      (record { exact = exact; short = short; blamed = refusal (answer types nodes bs) refl; early = early })
 
   pub answer-fault : {f : FileFault} → mapped sizes-of (script-in bs) ≡ Err f → answer types nodes bs ≡ Err f
   answer-fault h = then-err (placed types nodes) (mapped-fault sizes-of (script-in bs) h)

@@ -37,6 +37,18 @@ chosen : {X : Type 0} (o : Option X) (e : FileFault) {x : X} → okOr o e ≡ Ok
 chosen None e h = let z : _≡_ {A = ℕ} 0 1 = cc in absurd (omega arith)
 chosen (Some y) e h = cc
 
+passed-limits : (o least most m : ℕ) {n : ℕ} → limited o least most m ≡ Ok n → (least ≤ n) × (n ≤ most) × (m ≡ n)
+passed-limits o least most m h =
+    let t = passed (ltb m least || ltb most m) (Count o) m h in
+    let u = or-parts (ltb m least) (ltb most m) (t .0) in
+    (subst (λ (x : ℕ). least ≤ x) (t .1) (ltb-false m least (u .0)), subst (λ (x : ℕ). x ≤ most) (t .1) (ltb-false most m (u .1)), t .1)
+
+-- a count that was read is within its limits
+pub count-limit : (bs : List ℕ) (o least most : ℕ) {n : ℕ} → count-at bs o least most ≡ Ok n → n ≤ most
+count-limit bs o least most h =
+    let p = then-parts (chunk-at bs o 2) (λ word. limited o least most (number-of word)) h in
+    passed-limits o least most (number-of (p .0)) (p .2) .1
+
 module _ (bs : List ℕ) (bytes : Octets bs) where
   part-octets : (o k : ℕ) → Octets (part o k bs)
   part-octets o k = all-take (λ b. b < 256) k (drop o bs) (all-drop (λ b. b < 256) o bs bytes)
@@ -57,15 +69,9 @@ module _ (bs : List ℕ) (bytes : Octets bs) where
   count-parts o least most {n} h =
       let p = then-parts (chunk-at bs o 2) (λ word. limited o least most (number-of word)) h in
       let q = chunk-parts o 2 (p .1) in
-      let m = number-of (p .0) in
-      let t = passed (ltb m least || ltb most m) (Count o) m (p .2) in
-      let u = or-parts (ltb m least) (ltb most m) (t .0) in
-      let e : number-of (part o 2 bs) ≡ n = ap number-of (q .1) ∙ t .1 in (
-        subst (λ (x : ℕ). least ≤ x) (t .1) (ltb-false m least (u .0)),
-        subst (λ (x : ℕ). x ≤ most) (t .1) (ltb-false most m (u .1)),
-        q .0,
-        ap (bytes-of 2) (sym e) ∙ number-back o 2 (q .0),
-      )
+      let t = passed-limits o least most (number-of (p .0)) (p .2) in
+      let e : number-of (part o 2 bs) ≡ n = ap number-of (q .1) ∙ t .2 in
+      (t .0, t .1, q .0, ap (bytes-of 2) (sym e) ∙ number-back o 2 (q .0))
 
 code-of : (c : ℕ) (t : Primitive) → type-of c ≡ Some t → c ≡ type-code t
 code-of c t h = grind (arith, tells)
@@ -112,7 +118,7 @@ pub record Stands {X : Type 0} (bs : List ℕ) (written : X → List ℕ) (size 
   pub good : Good x
 
 module _ (bs : List ℕ) (bytes : Octets bs) where
-  type-stands : (o : ℕ) (t : Primitive) → type-at bs o ≡ Ok t → Stands bs type-bytes 1 (λ _. Unit {0}) o t
+  pub type-stands : (o : ℕ) (t : Primitive) → type-at bs o ≡ Ok t → Stands bs type-bytes 1 (λ _. Unit {0}) o t
   type-stands o t h =
       let p = then-parts (chunk-at bs o 1) (λ byte. okOr (type-of (getD byte 0 0)) (TypeCode o)) h in
       let q = chunk-parts bs bytes o 1 (p .1) in
@@ -124,7 +130,7 @@ module _ (bs : List ℕ) (bytes : Octets bs) where
         good = tt;
       }
 
-  node-stands : (o : ℕ) (n : Node) → node-at bs o ≡ Ok n → Stands bs node-bytes 14 Fits o n
+  pub node-stands : (o : ℕ) (n : Node) → node-at bs o ≡ Ok n → Stands bs node-bytes 14 Fits o n
   node-stands o n h =
       let p = then-parts (chunk-at bs o 14) (λ w. Ok (node-of w)) h in
       let q = chunk-parts bs bytes o 14 (p .1) in
@@ -140,7 +146,7 @@ module _ (bs : List ℕ) (bytes : Octets bs) where
 -- entries that were read, one after the other
 module _ {X : Type 0} (bs : List ℕ) (at : List ℕ → ℕ → Result X FileFault) (written : X → List ℕ) (size : ℕ) (Good : X → Type 0)
     (stands : (o : ℕ) (x : X) → at bs o ≡ Ok x → Stands bs written size Good o x) where
-  entries-stand : (o n : ℕ) {xs : List X} → o ≤ length bs → entries (at bs) size o n ≡ Ok xs
+  pub entries-stand : (o n : ℕ) {xs : List X} → o ≤ length bs → entries (at bs) size o n ≡ Ok xs
       → Stands bs (joined written) (n * size) (All Good) o xs
   entries-stand o zero {xs} h e =
       let none : [] ≡ xs = cc in

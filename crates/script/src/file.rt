@@ -11,7 +11,7 @@ ghost use Rattle.std.specs.Vec.{made};
 ghost use Rattle.script.specs.declared.fault.FileFault.{FileFault};
 ghost use Rattle.script.specs.declared.fault.FileFault.the-variants.{Cut};
 ghost use Rattle.script.specs.Format.{Script, part};
-ghost use Rattle.script.specs.Laws.{Cut-short, Exact};
+ghost use Rattle.script.specs.Laws.{Lawful};
 ghost use Rattle.script.specs.Reading.{Leaves, There, answer, count-at, end-at, entries, front, labels-in, locals-in, mapped, node-at, nodes-in, script-in, section, sizes-of, tested, type-at};
 use crate::fault::FileFault;
 use crate::node::Node;
@@ -177,7 +177,7 @@ fn sizes_in(bytes: &[u8]) -> Result<Sizes, FileFault>
 fn tested_sizes(bytes: &[u8], types: usize, nodes: usize) -> Result<Sizes, FileFault>
     ensures value { λ r. ⌜ r ≡ mapped sizes-of (answer types nodes (now (bytes .entry))) ⌝ }
     ensures there { λ r. ⌜ made r (λ z. There types nodes (now (bytes .entry)) z) ⌝ }
-    ensures lawful { λ _. ⌜ ((script : Result Script FileFault) → script ≡ answer types nodes (now (bytes .entry)) → Exact types nodes (now (bytes .entry)) script × Cut-short (now (bytes .entry)) script) ⌝ }
+    ensures lawful { λ _. ⌜ ((script : Result Script FileFault) → script ≡ answer types nodes (now (bytes .entry)) → Lawful types nodes (now (bytes .entry)) script) ⌝ }
 {
     let sizes = sizes_in(bytes)?;
     if types < sizes.locals as usize || nodes < sizes.nodes as usize {
@@ -207,8 +207,7 @@ fn fill_entries<E: Entry>(bytes: &[u8], first: u16, n: u16, table: &mut [E])
 pub fn read(bytes: &[u8], types: &mut [Primitive], nodes: &mut [Node]) -> Result<Sizes, FileFault>
     ensures value { λ r. ⌜ r ≡ mapped sizes-of (answer (length (now (types .entry))) (length (now (nodes .entry))) (now (bytes .entry))) ⌝ }
     ensures tables { λ r. ⌜ Leaves (now (types .entry)) (now (types .exit)) (now (nodes .entry)) (now (nodes .exit)) (answer (length (now (types .entry))) (length (now (nodes .entry))) (now (bytes .entry))) r ⌝ }
-    ensures exact { λ r. ⌜ Exact (length (now (types .entry))) (length (now (nodes .entry))) (now (bytes .entry)) (mapped (λ z. front z (now (types .exit)) (now (nodes .exit))) r) ⌝ }
-    ensures short { λ r. ⌜ Cut-short (now (bytes .entry)) (mapped (λ z. front z (now (types .exit)) (now (nodes .exit))) r) ⌝ }
+    ensures lawful { λ r. ⌜ Lawful (length (now (types .entry))) (length (now (nodes .entry))) (now (bytes .entry)) (mapped (λ z. front z (now (types .exit)) (now (nodes .exit))) r) ⌝ }
 {
     let sizes = tested_sizes(bytes, types.len(), nodes.len())?;
     fill_entries(bytes, 2, sizes.locals, types);

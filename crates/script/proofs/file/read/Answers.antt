@@ -11,22 +11,18 @@ returns-in-Break-sizes c =
     let nodes = c .args .nodes .now in
     let left = handed-on (c .from-residual .result) _ (c .from-residual .ensures .1) in
     let none = mapped-fault sizes-of (answer (length types) (length nodes) (c .args .bytes .now)) (sym (c .in-Break-sizes .ensures tt .value)) in
-    let laws = c .in-Break-sizes .ensures tt .lawful _ (ap (mapped (λ (z : Sizes). front z types nodes)) left ∙ sym none) in
     record {
       value = left ∙ sym (ap (mapped sizes-of) none);
       tables = subst (Leaves types types nodes nodes _) (sym left) (refl, refl);
-      exact = laws .0;
-      short = laws .1;
+      lawful = c .in-Break-sizes .ensures tt .lawful _ (ap (mapped (λ (z : Sizes). front z types nodes)) left ∙ sym none);
     }
 
 pub returns : need.returns
 returns c =
     let tested = c .in-Continue-sizes .ensures tt in
     let whole = tested .there .whole _ _ (c .fill-entries .ensures .written) (c .fill-entries-2 .ensures .written) in
-    let laws = tested .lawful _ (sym whole) in
     record {
       value = tested .value;
       tables = (whole, c .fill-entries .ensures .rest, c .fill-entries-2 .ensures .rest);
-      exact = laws .0;
-      short = laws .1;
+      lawful = tested .lawful _ (sym whole);
     }

@@ -8,7 +8,7 @@ use Rattle.std.specs.declared.alloc.Global.{Global}
 use Rattle.std.specs.declared.result.Result.{Result}
 use Rattle.std.specs.declared.result.Result.the-variants.{Ok, Err}
 use Rattle.std.specs.declared.string.String.{String}
-use Rattle.script.specs.Reading.{answer}
+use Rattle.script_file.specs.Reading.{answer}
 use Rattle.observe.specs.declared.show.ShowFault.{ShowFault}
 use Rattle.observe.specs.declared.show.ShowFault.the-variants.{Unreadable, Refused, Failed}
 

@@ -1,5 +1,2 @@
-pub mod Faults
-pub mod Format
 pub mod Kinds
-pub mod Laws
-pub mod Reading
+pub mod Scripts

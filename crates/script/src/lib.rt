@@ -1,22 +1,8 @@
-// A script as data: the sorts of number, the nodes, the file and its reading. Whether a script makes sense is not known here.
-mod fault;
-mod file;
+// A script as data: the four sorts of number, the kinds of node, and the nodes. Files are not known here, nor whether a script makes sense.
 mod kind;
 mod node;
 mod sorts;
 
-pub use fault::FileFault;
-pub use fault::FileFaultDebug;
-pub use fault::FileFaultDisplay;
-pub use fault::FileFaultPartialEq;
-pub use file::MOST_BYTES;
-pub use file::MOST_LABELS;
-pub use file::MOST_LOCALS;
-pub use file::MOST_NODES;
-pub use file::Sizes;
-pub use file::SizesDebug;
-pub use file::SizesPartialEq;
-pub use file::read;
 pub use kind::Kind;
 pub use kind::KindDisplay;
 pub use node::Node;

@@ -1,0 +1,181 @@
+-- What reading answers keeps the laws, and follows from what the code found.
+use mathlib.Core.Bool.{Bool, true, false, cond, _||_}
+use mathlib.Core.Logic.{_⊎_, inl, inr, ⊎-elim}
+use mathlib.Core.Path.{_≡_, refl, sym, ap, ap₂, subst, _∙_}
+use mathlib.Core.List.{List, _++_}
+use Prim.Native.Nat.{ℕ, _+_, _≤_, _<_}
+use native.Mathlib.Omega.{arith}
+use lib.Dec.{ltb}
+use lib.ListN.{length}
+use Rattle.std.proofs.shelf.Tests.{cond-false, cond-true, le-ltb, lt-ltb, ltb-false, ltb-true, or-cases, or-from, or-left, or-parts, or-right}
+use Rattle.std.specs.Results.{isOk}
+use Rattle.std.specs.Vec.{refused}
+use Rattle.std.specs.declared.result.Result.{Result}
+use Rattle.std.specs.declared.result.Result.the-variants.{Ok, Err}
+use Rattle.java.specs.declared.types.Primitive.{Primitive}
+use Rattle.script_file.specs.declared.fault.FileFault.{FileFault}
+use Rattle.script_file.specs.declared.fault.FileFault.the-variants.{Cut, Room}
+use Rattle.script_file.specs.declared.file.Sizes.{Sizes}
+use Rattle.script.specs.declared.node.Node.{Node}
+use Rattle.script.specs.Scripts.{Script}
+use Rattle.script_file.specs.Format.{Within, file}
+use Rattle.script_file.specs.Laws.{Blamed, Cut-short, Early, Exact, FileOf, Lawful}
+use Rattle.script_file.specs.Reading.{There, and-then, answer, count-at, entries, mapped, node-at, placed, script-in, sizes-of, type-at}
+use Rattle.script_file.proofs.Agree.{script-agrees}
+use Rattle.script_file.proofs.Blame.{blamed}
+use Rattle.script_file.proofs.Bytes.{Octets}
+use Rattle.script_file.proofs.OfFile.{file-read}
+use Rattle.script_file.proofs.Sections.{Parts, script-parts, section-parts}
+use Rattle.script_file.proofs.Short.{cut-short}
+use Rattle.script_file.proofs.Then.{mapped-fault, mapped-parts, passed, stopped, then-err, then-fault, then-ok, then-parts}
+use Rattle.script_file.proofs.ToFile.{count-parts, read-file}
+
+module _ (types nodes : ℕ) (bs : List ℕ) (bytes : Octets bs) where
+  exact : Exact types nodes bs (answer types nodes bs)
+  exact s = (read-to, file-of)
+    where
+      read-to : answer types nodes bs ≡ Ok s → FileOf types nodes bs s × ((other : Script) → Within other → bs ≡ file other → other ≡ s)
+      read-to h =
+          let p = then-parts (script-in bs) (placed types nodes) h in
+          let l = length (p .0 .locals) in
+          let n = length (p .0 .nodes) in
+          let q = passed (ltb types l || ltb nodes n) Room (p .0) (p .2) in
+          let room = or-parts (ltb types l) (ltb nodes n) (q .0) in
+          let whole = p .1 ∙ ap (λ (t : Script). Ok t) (q .1) in
+          let rf = read-file bs bytes s (script-parts bs s whole) in (
+            record {
+              within = rf .1;
+              bytes = rf .0;
+              locals-fit = subst (λ (t : Script). length (t .locals) ≤ types) (q .1) (ltb-false types l (room .0));
+              nodes-fit = subst (λ (t : Script). length (t .nodes) ≤ nodes) (q .1) (ltb-false nodes n (room .1));
+            },
+            λ other w e. let k = sym (ap script-in e ∙ file-read other w) ∙ whole in cc,
+          )
+
+      file-of : FileOf types nodes bs s → answer types nodes bs ≡ Ok s
+      file-of f =
+          then-ok (placed types nodes) (ap script-in (f .bytes) ∙ file-read s (f .within))
+          ∙ cond-false (ltb types (length (s .locals)) || ltb nodes (length (s .nodes))) (Err Room) (Ok s)
+          (or-from _ _ (le-ltb types (length (s .locals)) (f .locals-fit)) (le-ltb nodes (length (s .nodes)) (f .nodes-fit)))
+
+  short : Cut-short bs (answer types nodes bs)
+  short s lost w some e =
+      let p = cut-short bs lost bytes s w some e in
+      (p .0, then-err (placed types nodes) (p .1))
+
+  early : Early types nodes bs (answer types nodes bs)
+  early other e = ap (λ (r : Result Script FileFault). and-then r (placed types nodes)) (script-agrees other bs e)
+
+  -- a right file finds too little room
+  no-room : (s : Script) → script-in bs ≡ Ok s → placed types nodes s ≡ Err Room → Blamed types nodes bs Room
+  no-room s e h =
+      let rf = read-file bs bytes s (script-parts bs s e) in
+      let p = stopped (ltb types (length (s .locals)) || ltb nodes (length (s .nodes))) Room s h in (
+        s,
+        rf .1,
+        rf .0,
+        ⊎-elim (λ (a : ltb types (length (s .locals)) ≡ true). inl (ltb-true types (length (s .locals)) a))
+            (λ (b : ltb nodes (length (s .nodes)) ≡ true). inr (ltb-true nodes (length (s .nodes)) b)) (or-cases _ _ (p .0)),
+      )
+
+  blames : (f : FileFault) → answer types nodes bs ≡ Err f → Blamed types nodes bs f
+  blames f h =
+      elim (then-fault (script-in bs) (placed types nodes) h) [
+        | inl e ↦ blamed types nodes bs bytes e
+        | inr p ↦
+            let s = p .0 in
+            let q = stopped (ltb types (length (s .locals)) || ltb nodes (length (s .nodes))) Room s (p .2) in
+            subst (Blamed types nodes bs) (q .1) (no-room s (p .1) (p .2 ∙ ap (λ (g : FileFault). Err g) (sym (q .1))))
+      ]
+
+  refusal : (r : Result Script FileFault) → answer types nodes bs ≡ r → refused r (Blamed types nodes bs)
+  refusal (Ok s) h = tt
+  refusal (Err f) h = blames f h
+
+  pub lawful : (r : Result Script FileFault) → r ≡ answer types nodes bs → Lawful types nodes bs r
+  lawful r e =
+      subst (Lawful types nodes bs) (sym e)
+      (record { exact = exact; short = short; blamed = refusal (answer types nodes bs) refl; early = early })
+
+  pub answer-fault : {f : FileFault} → mapped sizes-of (script-in bs) ≡ Err f → answer types nodes bs ≡ Err f
+  answer-fault h = then-err (placed types nodes) (mapped-fault sizes-of (script-in bs) h)
+
+  module _ (z : Sizes) (sized : mapped sizes-of (script-in bs) ≡ Ok z) where
+    pub answer-room : (types < z .locals) ⊎ (nodes < z .nodes) → answer types nodes bs ≡ Err Room
+    answer-room h =
+        let p = mapped-parts sizes-of (script-in bs) sized in
+        let s = p .0 in
+        let l : length (s .locals) ≡ z .locals = ap (λ (y : Sizes). y .locals) (p .2) in
+        let n : length (s .nodes) ≡ z .nodes = ap (λ (y : Sizes). y .nodes) (p .2) in
+        let full : (ltb types (length (s .locals)) || ltb nodes (length (s .nodes))) ≡ true =
+        ⊎-elim (λ (a : types < z .locals). or-left (ltb types (length (s .locals))) _ (lt-ltb types (length (s .locals)) (omega arith)))
+        (λ (b : nodes < z .nodes). or-right (ltb types (length (s .locals))) _ (lt-ltb nodes (length (s .nodes)) (omega arith))) h in
+        then-ok (placed types nodes) (p .1) ∙ cond-true (ltb types (length (s .locals)) || ltb nodes (length (s .nodes))) (Err Room) (Ok s) full
+
+    -- what was tested is there to be written
+    record Tested : Type 0 where
+      pub script : Script
+      pub read : script-in bs ≡ Ok script
+      pub sizes : sizes-of script ≡ z
+      pub few-locals : z .locals ≤ 64
+      pub few-nodes : z .nodes ≤ 1024
+      pub types-there : entries (type-at bs) 1 2 (z .locals) ≡ Ok (script .locals)
+      pub nodes-there : entries (node-at bs) 14 (6 + z .locals) (z .nodes) ≡ Ok (script .nodes)
+
+    tested : Tested
+    tested =
+        let p = mapped-parts sizes-of (script-in bs) sized in
+        let s = p .0 in
+        let parts = script-parts bs s (p .1) in
+        let l : length (s .locals) ≡ z .locals = ap (λ (y : Sizes). y .locals) (p .2) in
+        let n : length (s .nodes) ≡ z .nodes = ap (λ (y : Sizes). y .nodes) (p .2) in
+        let locals = section-parts bs type-at 1 0 0 64 (parts .locals) in
+        let ns = section-parts bs node-at 14 (4 + length (s .locals)) 1 1024 (parts .nodes) in
+        let at : 4 + length (s .locals) + 2 ≡ 6 + z .locals = omega arith in
+        let few = count-parts bs bytes 0 0 64 (locals .0) .1 in
+        let some = count-parts bs bytes (4 + length (s .locals)) 1 1024 (ns .0) .1 in
+        record {
+          script = s;
+          read = p .1;
+          sizes = p .2;
+          few-locals = omega arith;
+          few-nodes = omega arith;
+          types-there = ap (entries (type-at bs) 1 2) (sym l) ∙ locals .1;
+          nodes-there = sym (ap₂ (entries (node-at bs) 14) at n) ∙ ns .1;
+        }
+
+    module _ (a : z .locals ≤ types) (b : z .nodes ≤ nodes) where
+      whole : answer types nodes bs ≡ Ok (tested .script)
+      whole =
+          let t = tested in
+          let s = t .script in
+          let l : length (s .locals) ≡ z .locals = ap (λ (y : Sizes). y .locals) (t .sizes) in
+          let n : length (s .nodes) ≡ z .nodes = ap (λ (y : Sizes). y .nodes) (t .sizes) in
+          then-ok (placed types nodes) (t .read)
+          ∙ cond-false (ltb types (length (s .locals)) || ltb nodes (length (s .nodes))) (Err Room) (Ok s)
+          (or-from _ _ (le-ltb types (length (s .locals)) (omega arith)) (le-ltb nodes (length (s .nodes)) (omega arith)))
+
+      pub answer-sizes : mapped sizes-of (answer types nodes bs) ≡ Ok z
+      answer-sizes = ap (mapped sizes-of) whole ∙ ap (λ (y : Sizes). Ok y) (tested .sizes)
+
+      answer-right : (written : List Primitive) (put : List Node)
+          → entries (type-at bs) 1 2 (z .locals) ≡ Ok written → entries (node-at bs) 14 (6 + z .locals) (z .nodes) ≡ Ok put
+          → answer types nodes bs ≡ Ok (record { locals = written; labels = z .labels; nodes = put })
+      answer-right written put e f =
+          let t = tested in
+          let s = t .script in
+          let k : s .labels ≡ z .labels = ap (λ (y : Sizes). y .labels) (t .sizes) in
+          let ts : s .locals ≡ written = let h = t .types-there in cc in
+          let xs : s .nodes ≡ put = let h = t .nodes-there in cc in
+          whole ∙ (λ i. Ok (record { locals = ts i; labels = k i; nodes = xs i }))
+
+      pub answer-there : There types nodes bs z
+      answer-there = record {
+        types-fit = a;
+        nodes-fit = b;
+        few-types = tested .few-locals;
+        few-nodes = tested .few-nodes;
+        types-right = ap isOk (tested .types-there);
+        nodes-right = ap isOk (tested .nodes-there);
+        whole = answer-right;
+      }

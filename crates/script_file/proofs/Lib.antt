@@ -1,0 +1,11 @@
+pub mod Agree
+pub mod Answer
+pub mod Blame
+pub mod Bytes
+pub mod Entries
+pub mod OfFile
+pub mod Short
+pub mod Then
+pub mod ToFile
+pub mod Witness
+pub mod Sections

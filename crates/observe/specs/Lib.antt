@@ -1,3 +1,1 @@
-pub mod Depth
-pub mod Said
 pub mod Words

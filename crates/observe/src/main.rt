@@ -1,6 +1,5 @@
 // The operator's companion: `observe show FILE` reads a script file and lists it, or says where its fault begins.
 mod command;
-mod listing;
 mod show;
 
 use crate::command::Command;

@@ -9,7 +9,7 @@ use lib.Dec.{ltb}
 use lib.ListN.{length}
 use Rattle.std.proofs.shelf.Tests.{and-from, and-left, and-parts, and-right, cases-bool, cond-false, cond-true, le-ltb, lt-ltb, ltb-true}
 use Rattle.script.specs.declared.node.Node.{Node}
-use Rattle.observe.specs.Depth.{above, depth-of, parent}
+use Rattle.listing.specs.Depth.{above, depth-of, parent}
 
 module _ (nodes : List Node) where
   at-top : (most p : ℕ) → (length nodes ≤ p) ⊎ (p ≤ parent nodes p) → above most nodes p ≡ 0

@@ -1,6 +1,6 @@
 // A script as an operator reads it: its locals by type, its labels, and its nodes, each indented below its parent.
 ghost use mathlib.Core.Path.{_≡_};
-ghost use Rattle.observe.specs.Depth.{depth-of};
+ghost use Rattle.listing.specs.Depth.{depth-of};
 use java::Primitive;
 use java::PrimitiveDisplay;
 use script::Chan;

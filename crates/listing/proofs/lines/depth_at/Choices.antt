@@ -1,8 +1,8 @@
 -- The nodes counted so far, and those above the node that is reached, stand above the place.
 use Prim.Native.Nat.{_+_, _≤_}
 use mathlib.Core.Path.{_≡_}
-use Rattle.observe.specs.Depth.{depth-of}
-use Rattle.observe.proofs.listing.depth_at.Given as given
+use Rattle.listing.specs.Depth.{depth-of}
+use Rattle.listing.proofs.lines.depth_at.Given as given
 
 abbrev pub Inv-loop-node : given.InvT-loop-node
 Inv-loop-node l = (depth-of (l .nodes) (l .place) ≡ l .above + depth-of (l .nodes) (l .at)) × (l .above + l .at ≤ l .place)

@@ -4,9 +4,9 @@ use Prim.Native.Nat.{_≤_, _<_}
 use native.Mathlib.Omega.{arith}
 use lib.ListN.{length}
 use Rattle.script.specs.declared.node.Node.{Node}
-use Rattle.observe.specs.Depth.{blank, depth-of, parent}
-use Rattle.observe.proofs.Climb.{depth-top, depth-up}
-use Rattle.observe.proofs.listing.depth_at.Needs as need
+use Rattle.listing.specs.Depth.{blank, depth-of, parent}
+use Rattle.listing.proofs.Climb.{depth-top, depth-up}
+use Rattle.listing.proofs.lines.depth_at.Needs as need
 
 pub loop-node-again : need.loop-node-again
 loop-node-again c =

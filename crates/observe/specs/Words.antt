@@ -1,6 +1,6 @@
 -- What the words of the command line mean.
 use mathlib.Core.Path.{_≡_}
-use mathlib.Core.List.{List}
+use mathlib.Core.List.{List, _++_}
 use Prim.Native.Nat.{ℕ, _<_}
 use lib.Chars.{codes}
 use lib.ListN.{length}
@@ -27,3 +27,10 @@ Meant words (Err (Unknown word)) =
     (0 < length words) × Says words 0 (word .now) × (word .now ≡ codes "show" → ⊥)
 Meant words (Err NoFile) = (length words ≡ 1) × Says words 0 (codes "show")
 Meant words (Err TooMany) = (2 < length words) × Says words 0 (codes "show")
+
+-- each misuse in words
+abbrev pub misuse-text : Misuse → List ℕ
+misuse-text NoWord = codes "a word is missing"
+misuse-text (Unknown word) = codes "unknown word '" ++ (word .now ++ codes "'")
+misuse-text NoFile = codes "a file is missing"
+misuse-text TooMany = codes "too many words"

@@ -1,5 +1,6 @@
 // What the operator asks for, in words.
-ghost use Rattle.observe.specs.Words.{Meant};
+ghost use Rattle.std.specs.declared.option.Option.the-variants.{Some};
+ghost use Rattle.observe.specs.Words.{Meant, misuse-text};
 use std::fmt;
 
 pub const USAGE: &str = "usage: observe show FILE";
@@ -38,12 +39,14 @@ pub fn understand(words: &[String]) -> Result<Command<'_>, Misuse<'_>>
 }
 
 pub impl<'a> fmt::Display for Misuse<'a> as MisuseDisplay {
+    ghost shown = { λ m. Some (misuse-text m) };
+
     fn fmt<W: fmt::Write>(&self, f: &mut fmt::Formatter<W>) -> fmt::Result {
         match self {
-            Misuse::NoWord => f.write_str("no word says what to do"),
+            Misuse::NoWord => f.write_str("a word is missing"),
             Misuse::Unknown(word) => write!(f, "unknown word '{word}'"),
-            Misuse::NoFile => f.write_str("'show' needs the name of a file"),
-            Misuse::TooMany => f.write_str("more than one file is named"),
+            Misuse::NoFile => f.write_str("a file is missing"),
+            Misuse::TooMany => f.write_str("too many words"),
         }
     }
 }

@@ -1,8 +1,8 @@
 -- What reading answers keeps the laws, and follows from what the code found.
-use mathlib.Core.Bool.{Bool, true, false, cond, _||_}
+use mathlib.Core.Bool.{true, _||_}
 use mathlib.Core.Logic.{_⊎_, inl, inr, ⊎-elim}
 use mathlib.Core.Path.{_≡_, refl, sym, ap, ap₂, subst, _∙_}
-use mathlib.Core.List.{List, _++_}
+use mathlib.Core.List.{List}
 use Prim.Native.Nat.{ℕ, _+_, _≤_, _<_}
 use native.Mathlib.Omega.{arith}
 use lib.Dec.{ltb}
@@ -14,18 +14,18 @@ use Rattle.std.specs.declared.result.Result.{Result}
 use Rattle.std.specs.declared.result.Result.the-variants.{Ok, Err}
 use Rattle.java.specs.declared.types.Primitive.{Primitive}
 use Rattle.script_file.specs.declared.fault.FileFault.{FileFault}
-use Rattle.script_file.specs.declared.fault.FileFault.the-variants.{Cut, Room}
+use Rattle.script_file.specs.declared.fault.FileFault.the-variants.{Room}
 use Rattle.script_file.specs.declared.file.Sizes.{Sizes}
 use Rattle.script.specs.declared.node.Node.{Node}
 use Rattle.script.specs.Scripts.{Script}
 use Rattle.script_file.specs.Format.{Within, file}
 use Rattle.script_file.specs.Laws.{Blamed, Cut-short, Early, Exact, FileOf, Lawful}
-use Rattle.script_file.specs.Reading.{There, and-then, answer, count-at, entries, mapped, node-at, placed, script-in, sizes-of, type-at}
+use Rattle.script_file.specs.Reading.{There, and-then, answer, entries, mapped, node-at, placed, script-in, sizes-of, type-at}
 use Rattle.script_file.proofs.Agree.{script-agrees}
 use Rattle.script_file.proofs.Blame.{blamed}
 use Rattle.script_file.proofs.Bytes.{Octets}
 use Rattle.script_file.proofs.OfFile.{file-read}
-use Rattle.script_file.proofs.Sections.{Parts, script-parts, section-parts}
+use Rattle.script_file.proofs.Sections.{script-parts, section-parts}
 use Rattle.script_file.proofs.Short.{cut-short}
 use Rattle.script_file.proofs.Then.{mapped-fault, mapped-parts, passed, stopped, then-err, then-fault, then-ok, then-parts}
 use Rattle.script_file.proofs.ToFile.{count-parts, read-file}

@@ -1,14 +1,14 @@
 -- A refusal names the first faulty part: all before it is right, and the part itself is not.
-use mathlib.Core.Bool.{Bool, true, false, cond, _||_}
+use mathlib.Core.Bool.{_||_}
 use mathlib.Core.Logic.{_⊎_, inl, inr}
-use mathlib.Core.Path.{_≡_, refl, sym, ap, ap₂, subst, _∙_}
-use mathlib.Core.List.{List, [], _∷_, _++_, append-assoc}
-use Prim.Native.Nat.{ℕ, zero, suc, _+_, _-_, _*_, _≤_, _<_}
+use mathlib.Core.Path.{_≡_, refl, sym, ap, subst, _∙_}
+use mathlib.Core.List.{List, [], _∷_, _++_}
+use Prim.Native.Nat.{ℕ, zero, suc, _+_, _*_, _≤_, _<_}
 use native.Mathlib.Nat.{suc-mul, zero-mul}
 use native.Mathlib.Omega.{arith}
 use lib.Dec.{ltb}
-use lib.ListN.{length, getD, take, drop}
-use Rattle.std.proofs.shelf.Tests.{cases-lt, ltb-false, ltb-true}
+use lib.ListN.{length, getD, take}
+use Rattle.std.proofs.shelf.Tests.{ltb-false, ltb-true}
 use Rattle.std.specs.Options.{okOr}
 use Rattle.std.specs.declared.option.Option.{Option}
 use Rattle.std.specs.declared.option.Option.the-variants.{Some, None}
@@ -19,17 +19,17 @@ use Rattle.std.specs.shelf.Lists.{All}
 use Rattle.java.specs.declared.types.Primitive.{Primitive}
 use Rattle.java.specs.Types.{type-of}
 use Rattle.script_file.specs.declared.fault.FileFault.{FileFault}
-use Rattle.script_file.specs.declared.fault.FileFault.the-variants.{Cut, Count, TypeCode, Trailing, Room}
+use Rattle.script_file.specs.declared.fault.FileFault.the-variants.{Cut, Count, TypeCode, Trailing}
 use Rattle.script.specs.declared.node.Node.{Node}
 use Rattle.script.specs.Scripts.{Script}
-use Rattle.script_file.specs.Format.{Fits, Within, bytes-of, file, node-bytes, node-of, number-of, part, type-bytes}
+use Rattle.script_file.specs.Format.{Fits, Within, file, node-bytes, node-of, number-of, part, type-bytes}
 use Rattle.script_file.specs.Laws.{Blamed, Dead-end, Right-before}
 use Rattle.script_file.specs.Reading.{and-then, chunk-at, count-at, end-at, entries, labels-in, limited, locals-in, node-at, nodes-in, script-in, section, type-at}
 use Rattle.script_file.proofs.Agree.{count-agrees, type-agrees}
 use Rattle.script_file.proofs.Bytes.{Octets}
 use Rattle.script_file.proofs.OfFile.{file-parts}
 use Rattle.script_file.proofs.Sections.{entries-length, script-stages, section-parts, then-end, then-labels, then-nodes}
-use Rattle.script_file.proofs.ToFile.{Stands, count-parts, entries-stand, node-stands, type-stands}
+use Rattle.script_file.proofs.ToFile.{count-parts, entries-stand, node-stands, type-stands}
 use Rattle.script_file.proofs.Witness.{after-count, begun, count-front, labels-front, longer, right-at-count, right-at-labels, right-at-node, right-at-start, right-at-type, types-front}
 use Rattle.script_file.proofs.Then.{not-both, passed, stopped, then-fault, then-ok, then-parts}
 
@@ -130,10 +130,10 @@ module _ (bs : List ℕ) where
         | inr p ↦ absurd (not-both refl (p .2))
       ]
 
-  section-wrong : {X : Type 0} (at : List ℕ → ℕ → Result X FileFault) (size o least most : ℕ) {f : FileFault} → section bs at size o least most ≡ Err f
+  section-split : {X : Type 0} (at : List ℕ → ℕ → Result X FileFault) (size o least most : ℕ) {f : FileFault} → section bs at size o least most ≡ Err f
       → (count-at bs o least most ≡ Err f) ⊎ ((n : ℕ) × (count-at bs o least most ≡ Ok n) × (entries (at bs) size (o + 2) n ≡ Err f))
   unfolding section
-  section-wrong at size o least most h = then-fault (count-at bs o least most) (entries (at bs) size (o + 2)) h
+  section-split at size o least most h = then-fault (count-at bs o least most) (entries (at bs) size (o + 2)) h
 
   -- a file that begins with these bytes would be read otherwise
   dead-locals : {f : FileFault} → count-at bs 0 0 64 ≡ Err f → Dead-end bs 2
@@ -195,7 +195,7 @@ module _ (types nodes : ℕ) (bs : List ℕ) where
 
     wrong-locals : {f : FileFault} → locals-in bs ≡ Err f → Blamed types nodes bs f
     wrong-locals h =
-        elim (section-wrong bs type-at 1 0 0 64 h) [
+        elim (section-split bs type-at 1 0 0 64 h) [
           | inl e ↦ blamed-count 0 (right-at-start bs) (omega arith) (dead-locals bs e) (count-wrong bs 0 0 64 e)
           | inr p ↦ wrong-type (p .0) (p .1) (first-wrong (type-at bs) 1 2 (p .0) (p .2))
         ]
@@ -260,7 +260,7 @@ module _ (types nodes : ℕ) (bs : List ℕ) where
 
         wrong-nodes : {f : FileFault} → nodes-in bs (length xs) ≡ Err f → Blamed types nodes bs f
         wrong-nodes h =
-            elim (section-wrong bs node-at 14 (4 + length xs) 1 1024 h) [
+            elim (section-split bs node-at 14 (4 + length xs) 1 1024 h) [
               | inl e ↦ wrong-count e
               | inr p ↦ wrong-node (p .0) (p .1) (first-wrong (node-at bs) 14 (4 + length xs + 2) (p .0) (p .2))
             ]

@@ -14,8 +14,10 @@ pub next-offset : (o i size : ℕ) → o + i * size + size ≡ o + (i + 1) * siz
 next-offset o i size = let e : (i + 1) * size ≡ i * size + 1 * size = add-mul i 1 size in omega (arith, one-mul size)
 
 -- an entry that there is begins within the section
-pub inside : (o i n size bound : ℕ) → i < n → o + n * size < bound → o + i * size < bound
-inside o i n size bound h k = omega (arith, mul-le-mul-right size h)
+pub inside : (o i n size width bound : ℕ) → size ≡ width → i < n → o + n * width < bound → o + i * size < bound
+inside o i n size width bound e h k =
+    let f : i * size ≡ i * width = ap (λ (s : ℕ). i * s) e in
+    omega (arith, mul-le-mul-right width h)
 
 -- entries read so far, before those that are left
 abbrev pub after : {X : Type 0} → List X → Result (List X) FileFault → Result (List X) FileFault

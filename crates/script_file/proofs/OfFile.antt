@@ -1,12 +1,12 @@
 -- The file of a script is read to that script.
-use mathlib.Core.Bool.{Bool, true, false, cond, _||_}
-use mathlib.Core.Path.{_≡_, refl, sym, ap, ap₂, subst, _∙_}
+use mathlib.Core.Bool.{_||_}
+use mathlib.Core.Path.{_≡_, refl, sym, ap, _∙_}
 use mathlib.Core.List.{List, [], _∷_, _++_, append-assoc, append-nil}
-use Prim.Native.Nat.{ℕ, zero, suc, _+_, _*_, _/_, _%_, _^_, _≤_, _<_}
+use Prim.Native.Nat.{ℕ, suc, _+_, _*_, _^_, _≤_, _<_}
 use native.Mathlib.Nat.{zero-mul, suc-mul}
 use native.Mathlib.Omega.{arith}
 use lib.Dec.{ltb}
-use lib.ListN.{length, getD, take, drop, length-append}
+use lib.ListN.{length, getD, length-append}
 use mir.Facts.{fits-ofZ}
 use mir.Syntax.{w64}
 use mir.Val.{ofZ, toZ}
@@ -14,7 +14,7 @@ use Rattle.std.proofs.shelf.Signed.{toZ-ofZ}
 use Rattle.std.proofs.shelf.Tests.{cond-false, le-ltb, or-from}
 use Rattle.std.specs.Joined.{joined}
 use Rattle.std.specs.Options.{okOr}
-use Rattle.std.specs.declared.option.Option.the-variants.{Some, None}
+use Rattle.std.specs.declared.option.Option.the-variants.{Some}
 use Rattle.std.specs.declared.result.Result.{Result}
 use Rattle.std.specs.declared.result.Result.the-variants.{Ok, Err}
 use Rattle.std.specs.shelf.Lists.{All}
@@ -26,7 +26,7 @@ use Rattle.script_file.specs.declared.fault.FileFault.the-variants.{Cut, Count
 use Rattle.script.specs.declared.node.Node.{Node}
 use Rattle.script.specs.Scripts.{Script}
 use Rattle.script_file.specs.Format.{Fits, Within, bytes-of, number-of, part, type-bytes, node-bytes, node-of, file}
-use Rattle.script_file.specs.Reading.{and-then, locals-in, labels-in, nodes-in, chunk-at, limited, count-at, type-at, node-at, end-at, entries, section, script-in}
+use Rattle.script_file.specs.Reading.{and-then, chunk-at, limited, count-at, type-at, node-at, entries, section, script-in}
 use Rattle.script_file.proofs.Bytes.{length-bytes-of, number-of-bytes-of, part-between}
 use Rattle.script_file.proofs.Sections.{Parts, section-of, script-from-parts}
 use Rattle.script_file.proofs.Then.{then-ok}

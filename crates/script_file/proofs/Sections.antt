@@ -2,7 +2,6 @@
 use mathlib.Core.Path.{_≡_, refl, sym, ap, subst, _∙_}
 use mathlib.Core.List.{List, [], _∷_}
 use Prim.Native.Nat.{ℕ, zero, suc, _+_, _*_}
-use native.Mathlib.Omega.{arith}
 use lib.ListN.{length}
 use Rattle.std.specs.declared.result.Result.{Result}
 use Rattle.std.specs.declared.result.Result.the-variants.{Ok, Err}
@@ -11,7 +10,7 @@ use Rattle.script_file.specs.declared.fault.FileFault.{FileFault}
 use Rattle.script_file.specs.declared.file.Sizes.{Sizes}
 use Rattle.script.specs.declared.node.Node.{Node}
 use Rattle.script.specs.Scripts.{Script}
-use Rattle.script_file.specs.Reading.{and-then, mapped, locals-in, labels-in, nodes-in, count-at, type-at, node-at, end-at, entries, section, script-in, sizes-of, tested}
+use Rattle.script_file.specs.Reading.{and-then, mapped, locals-in, labels-in, nodes-in, count-at, end-at, entries, section, script-in, sizes-of, tested}
 use Rattle.script_file.proofs.Then.{then-ok, then-err, then-parts, mapped-fault, mapped-parts}
 
 -- as many entries as there should be

@@ -1,8 +1,7 @@
 -- A file without its end: each part is read as in the whole file, or is not whole.
-use mathlib.Core.Bool.{Bool, true, false, cond, _||_}
 use mathlib.Core.Logic.{_⊎_, inl, inr}
 use mathlib.Core.Path.{_≡_, refl, sym, ap, subst, _∙_}
-use mathlib.Core.List.{List, [], _∷_, _++_}
+use mathlib.Core.List.{List, _∷_, _++_}
 use Prim.Native.Nat.{ℕ, zero, suc, _+_, _*_, _≤_, _<_}
 use native.Mathlib.Omega.{arith}
 use lib.Dec.{ltb}
@@ -14,7 +13,7 @@ use Rattle.std.specs.declared.result.Result.{Result}
 use Rattle.std.specs.declared.result.Result.the-variants.{Ok, Err}
 use Rattle.java.specs.Types.{type-of}
 use Rattle.script_file.specs.declared.fault.FileFault.{FileFault}
-use Rattle.script_file.specs.declared.fault.FileFault.the-variants.{Cut, Count, TypeCode, Trailing}
+use Rattle.script_file.specs.declared.fault.FileFault.the-variants.{Cut, TypeCode, Trailing}
 use Rattle.script.specs.Scripts.{Script}
 use Rattle.script_file.specs.Format.{Within, number-of, node-of, part, file}
 use Rattle.script_file.specs.Reading.{and-then, locals-in, labels-in, nodes-in, chunk-at, limited, count-at, type-at, node-at, end-at, entries, section, script-in}

@@ -1,12 +1,12 @@
 -- What was read is a script within the limits, and the bytes are its file.
-use mathlib.Core.Bool.{Bool, true, false, cond, _||_}
+use mathlib.Core.Bool.{_||_}
 use mathlib.Core.Path.{_≡_, refl, sym, ap, ap₂, subst, _∙_}
 use mathlib.Core.List.{List, [], _∷_, _++_}
 use Prim.Native.Nat.{ℕ, zero, suc, _+_, _*_, _^_, _≤_, _<_}
 use native.Mathlib.Nat.{zero-mul, suc-mul}
 use native.Mathlib.Omega.{arith}
-use lib.Dec.{ltb, eqb}
-use lib.ListN.{length, getD, take, drop}
+use lib.Dec.{ltb}
+use lib.ListN.{length, getD, drop}
 use mir.Facts.{sfits-toZ}
 use mir.Syntax.{w64}
 use mir.Val.{ofZ, toZ}
@@ -20,7 +20,7 @@ use Rattle.std.specs.Options.{okOr}
 use Rattle.std.specs.declared.option.Option.{Option}
 use Rattle.std.specs.declared.option.Option.the-variants.{Some, None}
 use Rattle.std.specs.declared.result.Result.{Result}
-use Rattle.std.specs.declared.result.Result.the-variants.{Ok, Err}
+use Rattle.std.specs.declared.result.Result.the-variants.{Ok}
 use Rattle.std.specs.shelf.Lists.{All}
 use Rattle.java.specs.declared.types.Primitive.{Primitive}
 use Rattle.java.specs.Types.{type-code, type-of}
@@ -29,7 +29,7 @@ use Rattle.script_file.specs.declared.fault.FileFault.the-variants.{Cut, Count
 use Rattle.script.specs.declared.node.Node.{Node}
 use Rattle.script.specs.Scripts.{Script}
 use Rattle.script_file.specs.Format.{Fits, Within, bytes-of, number-of, part, type-bytes, node-bytes, node-of, file}
-use Rattle.script_file.specs.Reading.{and-then, locals-in, labels-in, nodes-in, chunk-at, limited, count-at, type-at, node-at, end-at, entries, section, script-in}
+use Rattle.script_file.specs.Reading.{and-then, chunk-at, limited, count-at, type-at, node-at, entries}
 use Rattle.script_file.proofs.Bytes.{Octets, bytes-of-number-of, number-of-small, length-part, part-part}
 use Rattle.script_file.proofs.Sections.{Parts, section-parts}
 use Rattle.script_file.proofs.Then.{passed, then-parts}

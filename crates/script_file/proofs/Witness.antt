@@ -1,10 +1,10 @@
 -- Scripts whose files begin with the bytes that were right so far.
-use mathlib.Core.Path.{_≡_, refl, sym, ap, ap₂, subst, _∙_}
+use mathlib.Core.Path.{_≡_, refl, sym, ap, ap₂, _∙_}
 use mathlib.Core.List.{List, [], _∷_, _++_, append-assoc}
 use Prim.Native.Nat.{ℕ, zero, suc, _+_, _-_, _*_, _≤_, _<_}
 use native.Mathlib.Omega.{arith}
 use lib.IntN.{pos}
-use lib.ListN.{length, take, drop, replicate, length-append, length-replicate, length-take}
+use lib.ListN.{length, take, replicate, length-append, length-replicate, length-take}
 use lib.Seq.{take-add}
 use Rattle.std.proofs.shelf.Elements.{all-append}
 use Rattle.std.proofs.shelf.Lists.{take-at}
@@ -14,8 +14,8 @@ use Rattle.java.specs.declared.types.Primitive.{Primitive}
 use Rattle.java.specs.declared.types.Primitive.the-variants.{Boolean}
 use Rattle.script.specs.declared.node.Node.{Node}
 use Rattle.script.specs.Scripts.{Script}
-use Rattle.script_file.specs.Format.{Fits, Within, bytes-of, file, node-bytes, part, type-bytes}
-use Rattle.script_file.specs.Laws.{Part, Right-before, labels-count, locals-count, node, nodes-count, type-code}
+use Rattle.script_file.specs.Format.{Fits, bytes-of, file, node-bytes, part, type-bytes}
+use Rattle.script_file.specs.Laws.{Right-before, labels-count, locals-count, node, nodes-count, type-code}
 
 abbrev plain : Node
 plain = record { kind = 0; detail = 0; up = record { 0 = 0 }; end = record { 0 = 0 }; number = pos 0 }

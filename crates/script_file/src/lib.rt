@@ -1,6 +1,7 @@
 // Script files: the format and its reading. Whether a script makes sense is not known here.
 mod fault;
 mod file;
+mod parts;
 
 pub use fault::FileFault;
 pub use fault::FileFaultDebug;

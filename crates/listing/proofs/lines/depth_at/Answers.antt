@@ -1,8 +1,7 @@
 use mathlib.Core.Logic.{inl, inr}
-use mathlib.Core.Path.{_≡_, sym, ap}
-use Prim.Native.Nat.{_≤_, _<_}
+use mathlib.Core.Path.{_≡_, ap}
+use Prim.Native.Nat.{_≤_}
 use native.Mathlib.Omega.{arith}
-use lib.ListN.{length}
 use Rattle.script.specs.declared.node.Node.{Node}
 use Rattle.listing.specs.Depth.{blank, depth-of, parent}
 use Rattle.listing.proofs.Climb.{depth-top, depth-up}

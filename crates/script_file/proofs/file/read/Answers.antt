@@ -1,4 +1,4 @@
-use mathlib.Core.Path.{_≡_, refl, sym, ap, subst, _∙_}
+use mathlib.Core.Path.{refl, sym, ap, subst, _∙_}
 use lib.ListN.{length}
 use Rattle.script_file.specs.declared.file.Sizes.{Sizes}
 use Rattle.script_file.specs.Reading.{Leaves, answer, front, mapped, sizes-of}

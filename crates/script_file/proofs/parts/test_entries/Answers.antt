@@ -1,11 +1,11 @@
-use mathlib.Core.Path.{_≡_, sym, ap, _∙_}
-use Prim.Native.Nat.{_+_, _*_, _<_}
+use mathlib.Core.Path.{sym, ap, _∙_}
+use Prim.Native.Nat.{_+_, _*_}
 use native.Mathlib.Omega.{arith}
 use Rattle.std.proofs.shelf.Results.{err-from-errBy}
-use Rattle.std.specs.declared.result.Result.the-variants.{Ok, Err}
+use Rattle.std.specs.declared.result.Result.the-variants.{Err}
 use Rattle.script_file.specs.Reading.{tested}
 use Rattle.script_file.proofs.Entries.{inside, rest-all, rest-wrong, rest-none, tested-more}
-use Rattle.script_file.proofs.file.test_entries.Needs as need
+use Rattle.script_file.proofs.parts.test_entries.Needs as need
 
 pub loop-i-holds : need.loop-i-holds
 loop-i-holds g c =
@@ -13,13 +13,11 @@ loop-i-holds g c =
 
 pub mul-i : need.mul-i
 mul-i g c =
-    let e = ap (λ s. c .loop-i .i * s) (c .size .ensures) in
-    omega (arith, e, inside (c .args .first) (c .loop-i .i) (c .args .n) (g .E·Entry .width) 65536 (c .loop-i-test .taken) (c .pre))
+    omega (arith, inside (c .args .first) (c .loop-i .i) (c .args .n) (c .size .result) (g .E·Entry .width) 65536 (c .size .ensures) (c .loop-i-test .taken) (c .pre))
 
 pub add-first : need.add-first
 add-first g c =
-    let e = ap (λ s. c .loop-i .i * s) (c .size .ensures) in
-    omega (arith, e, inside (c .args .first) (c .loop-i .i) (c .args .n) (g .E·Entry .width) 65536 (c .loop-i-test .taken) (c .pre))
+    omega (arith, inside (c .args .first) (c .loop-i .i) (c .args .n) (c .size .result) (g .E·Entry .width) 65536 (c .size .ensures) (c .loop-i-test .taken) (c .pre))
 
 pub returns-in-Break-at : need.returns-in-Break-at
 returns-in-Break-at g c =

@@ -4,7 +4,7 @@ use mathlib.Core.Path.{_≡_}
 use lib.ListN.{take, drop}
 use Rattle.script_file.specs.Reading.{entries}
 use Rattle.script_file.proofs.Entries.{after}
-use Rattle.script_file.proofs.file.fill_entries.Given as given
+use Rattle.script_file.proofs.parts.fill_entries.Given as given
 
 abbrev pub Inv-loop-i : given.InvT-loop-i
 Inv-loop-i g l =

@@ -1,16 +1,14 @@
-use mathlib.Core.Bool.{true}
 use mathlib.Core.List.{append-nil}
 use mathlib.Core.Path.{_≡_, refl, sym, ap, subst, _∙_}
-use Prim.Native.Nat.{ℕ, _+_, _*_, _<_}
+use Prim.Native.Nat.{_+_, _*_, _<_}
 use lib.ListN.{length, take, drop}
 use native.Mathlib.Omega.{arith}
 use Rattle.std.proofs.shelf.Lists.{take-more-set, drop-set-lt, drop-drop}
 use Rattle.std.proofs.shelf.Tests.{false≢true}
 use Rattle.std.specs.Results.{isOk}
-use Rattle.std.specs.declared.result.Result.the-variants.{Ok, Err}
-use Rattle.script_file.specs.Reading.{entries}
+use Rattle.std.specs.declared.result.Result.the-variants.{Ok}
 use Rattle.script_file.proofs.Entries.{after, inside, rest, rest-all, rest-wrong, rest-none, after-none, after-more}
-use Rattle.script_file.proofs.file.fill_entries.Needs as need
+use Rattle.script_file.proofs.parts.fill_entries.Needs as need
 
 pub loop-i-holds : need.loop-i-holds
 loop-i-holds g c =
@@ -19,13 +17,11 @@ loop-i-holds g c =
 
 pub mul-i : need.mul-i
 mul-i g c =
-    let e = ap (λ s. c .loop-i .i * s) (c .size .ensures) in
-    omega (arith, e, inside (c .args .first) (c .loop-i .i) (c .args .n) (g .E·Entry .width) 65536 (c .loop-i-test .taken) (c .pre .short))
+    omega (arith, inside (c .args .first) (c .loop-i .i) (c .args .n) (c .size .result) (g .E·Entry .width) 65536 (c .size .ensures) (c .loop-i-test .taken) (c .pre .short))
 
 pub add-first : need.add-first
 add-first g c =
-    let e = ap (λ s. c .loop-i .i * s) (c .size .ensures) in
-    omega (arith, e, inside (c .args .first) (c .loop-i .i) (c .args .n) (g .E·Entry .width) 65536 (c .loop-i-test .taken) (c .pre .short))
+    omega (arith, inside (c .args .first) (c .loop-i .i) (c .args .n) (c .size .result) (g .E·Entry .width) 65536 (c .size .ensures) (c .loop-i-test .taken) (c .pre .short))
 
 pub unreachable-requires : need.unreachable-requires
 unreachable-requires g c κs =

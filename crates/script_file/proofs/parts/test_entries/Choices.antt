@@ -2,7 +2,7 @@
 use Prim.Native.Nat.{_+_, _-_, _*_}
 use mathlib.Core.Path.{_≡_}
 use Rattle.script_file.specs.Reading.{entries, tested}
-use Rattle.script_file.proofs.file.test_entries.Given as given
+use Rattle.script_file.proofs.parts.test_entries.Given as given
 
 abbrev pub Inv-loop-i : given.InvT-loop-i
 Inv-loop-i g l =

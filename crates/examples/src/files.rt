@@ -56,7 +56,7 @@ pub fn damaged(at: usize, byte: u8) -> [u8; 77] {
     bytes
 }
 
-// A file with so many locals, labels and nodes by its counts, and so many entries of each.
+// A file with these counts of locals, labels and nodes, and with so many type codes and nodes.
 pub fn filled(heap: Global, locals: u16, labels: u16, nodes: u16) -> Result<Vec<u8>, AllocError> {
     let mut bytes = Vec::new(heap);
     bytes.extend_from_slice(&locals.to_le_bytes())?;

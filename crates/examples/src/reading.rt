@@ -13,6 +13,7 @@ use script::NodePartialEq;
 use script_file::FileFault;
 use script_file::FileFaultDebug;
 use script_file::FileFaultPartialEq;
+use script_file::MOST_BYTES;
 use script_file::Sizes;
 use script_file::SizesDebug;
 use script_file::SizesPartialEq;
@@ -106,13 +107,23 @@ fn the_largest_script_is_read(rt: LibcRuntime) -> Result<(), Fail> {
         labels: 32,
         nodes: 1024,
     };
-    check_eq(bytes.len(), 14_406)?;
+    check_eq(bytes.len(), MOST_BYTES)?;
     check_eq(
         read(bytes.as_slice(), &mut t.types, &mut t.nodes),
         Ok(sizes),
     )?;
     check_eq(t.types[63], Primitive::Long)?;
     check_eq(t.nodes[1023], node(8, 0, 1023, 256, -1))
+}
+
+#[test]
+fn a_file_of_any_length_gets_an_answer(rt: LibcRuntime) -> Result<(), Fail> {
+    let mut t = spare_tables();
+    let more = [7u8; 60_000];
+    let mut bytes = filled(rt.alloc(), 64, 32, 1024)?;
+    bytes.extend_from_slice(&more)?;
+    let answer = read(bytes.as_slice(), &mut t.types, &mut t.nodes);
+    check_eq(answer, Err(FileFault::Trailing(14_406)))
 }
 
 // Counts at the edge of their limits: locals, labels, nodes, and where the count stands that is outside.

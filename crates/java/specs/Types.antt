@@ -1,4 +1,4 @@
--- The primitive types, and the code of each in a script file.
+-- The primitive types: the code of each in stored data, and its keyword.
 use mathlib.Core.Bool.{cond}
 use mathlib.Core.List.{List}
 use Prim.Native.Nat.{ℕ}

@@ -1,4 +1,4 @@
-// The primitive types of the scripts, and the code by which a script file names each.
+// The primitive types, each with its keyword and with the code that stands for it in stored data.
 ghost use mathlib.Core.Path.{_≡_};
 ghost use Rattle.std.specs.declared.option.Option.the-variants.{Some};
 ghost use Rattle.java.specs.declared.types.Primitive.{Primitive};

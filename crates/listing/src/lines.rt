@@ -35,9 +35,10 @@ pub impl<'a> fmt::Display for Listing<'a> as ListingDisplay {
         writeln!(f, "labels: {labels}")?;
         writeln!(f, "nodes: {nodes}")?;
         writeln!(f, "place    up   end  detail  number  kind")?;
-        for (place, node) in (0..u16::MAX).zip(self.nodes.iter()) {
+        for (i, node) in (0..u16::MAX).zip(self.nodes.iter()) {
+            let place = Pos(i);
             let line = Line {
-                place: Pos(place),
+                place,
                 depth: depth_at(self.nodes, place),
                 node: *node,
             };
@@ -48,11 +49,11 @@ pub impl<'a> fmt::Display for Listing<'a> as ListingDisplay {
 }
 
 // How many nodes stand above a place, going by what the file says: a node whose parent is not before it has none.
-fn depth_at(nodes: &[Node], place: u16) -> u16
-    ensures { λ r. ⌜ r ≡ depth-of (now (nodes .entry)) place ⌝ }
+fn depth_at(nodes: &[Node], place: Pos) -> u16
+    ensures { λ r. ⌜ r ≡ depth-of (now (nodes .entry)) (place .0) ⌝ }
 {
     let mut above = 0;
-    let mut at = place;
+    let mut at = place.0;
     while let Some(node) = nodes.get(at as usize) {
         if node.up.0 >= at {
             break;

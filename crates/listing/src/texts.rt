@@ -1,6 +1,7 @@
 // What is said of the bytes of a script file.
 ghost use mathlib.Core.Path.{_≡_};
-ghost use Rattle.listing.specs.Said.{Said};
+ghost use Rattle.std.specs.declared.option.Option.the-variants.{Some};
+ghost use Rattle.listing.specs.Said.{Said, fault-words};
 ghost use Rattle.listing.specs.declared.texts.ListFault.the-variants.{Memory, Refused};
 use crate::lines::Listing;
 use crate::lines::ListingDisplay;
@@ -26,10 +27,12 @@ pub enum ListFault {
 }
 
 pub impl fmt::Display for ListFault as ListFaultDisplay {
+    ghost shown = { λ fault. Some (fault-words fault) };
+
     fn fmt<W: fmt::Write>(&self, f: &mut fmt::Formatter<W>) -> fmt::Result {
         match self {
             ListFault::Refused(fault) => write!(f, "{fault}"),
-            ListFault::Memory => f.write_str("there is not enough memory"),
+            ListFault::Memory => f.write_str("out of memory"),
         }
     }
 }
@@ -52,7 +55,7 @@ pub impl From<AllocError> for ListFault as ListFaultFromAlloc {
 
 // The listing of a file with these bytes, and a last line that says what was read.
 pub fn text_of(heap: Global, path: &str, bytes: &[u8]) -> Result<String, ListFault>
-    ensures { λ r. ⌜ Said (now (bytes .entry)) r ⌝ }
+    ensures { λ r. ⌜ Said (now (path .entry)) (now (bytes .entry)) r ⌝ }
 {
     let mut types = [Primitive::Boolean; MOST_LOCALS];
     let mut nodes = [Node {
@@ -69,6 +72,8 @@ pub fn text_of(heap: Global, path: &str, bytes: &[u8]) -> Result<String, ListFau
         nodes: &nodes[0..sizes.nodes as usize],
     };
     let size = bytes.len();
-    let text = format!(heap, "{listing}read {path} whole: {size} bytes\n")?;
+    let mut text = format!(heap, "{listing}")?;
+    let last = format!(heap, "read {path} whole: {size} bytes\n")?;
+    text.push_str(last.as_str())?;
     Ok(text)
 }

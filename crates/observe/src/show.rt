@@ -1,8 +1,11 @@
 // `observe show`: reads a script file, and says what it is.
+ghost use mathlib.Core.Path.{_≡_};
+ghost use Rattle.observe.specs.declared.show.ShowFault.the-variants.{Unlisted};
+use crate::command::USAGE;
 use listing::ListFault;
 use listing::ListFaultDisplay;
 use listing::text_of;
-use script_file::MOST_BYTES;
+use script_file::deciding_bytes;
 use std::fmt;
 use std::fs::File;
 use std::io;
@@ -13,7 +16,7 @@ use std::io::Read;
 pub enum ShowFault {
     // The file is missing or cannot be read.
     Unreadable(io::Error),
-    // The file is no script file.
+    // There is no listing of what was read.
     Unlisted(ListFault),
     // The output cannot be written.
     Unwritten(io::Error),
@@ -22,7 +25,7 @@ pub enum ShowFault {
 pub impl fmt::Display for ShowFault as ShowFaultDisplay {
     fn fmt<W: fmt::Write>(&self, f: &mut fmt::Formatter<W>) -> fmt::Result {
         match self {
-            ShowFault::Unreadable(error) => write!(f, "the file cannot be read: {error}"),
+            ShowFault::Unreadable(error) => write!(f, "the file cannot be read: {error}\n{USAGE}"),
             ShowFault::Unlisted(fault) => write!(f, "{fault}"),
             ShowFault::Unwritten(error) => write!(f, "the output cannot be written: {error}"),
         }
@@ -30,21 +33,23 @@ pub impl fmt::Display for ShowFault as ShowFaultDisplay {
 }
 
 pub impl From<ListFault> for ShowFault as ShowFaultFromList {
+    ghost converts = { λ fault r. r ≡ Unlisted fault };
+
     fn from(fault: ListFault) -> ShowFault {
         ShowFault::Unlisted(fault)
     }
 }
 
-// The first bytes of a file: one more than the longest script file has, since what follows does not change the answer.
-fn front_of(rt: &LibcRuntime, path: &str) -> io::Result<Vec<u8>> {
+// As many bytes of a file as decide what is answered to it.
+fn first_bytes(rt: &LibcRuntime, path: &str) -> io::Result<Vec<u8>> {
     let mut bytes = Vec::new(rt.alloc());
     let file = File::open(rt, path)?;
-    let _ = file.take(MOST_BYTES as u64 + 1).read_to_end(&mut bytes)?;
+    let _ = file.take(deciding_bytes() as u64).read_to_end(&mut bytes)?;
     Ok(bytes)
 }
 
 pub fn show(rt: &LibcRuntime, path: &str) -> Result<(), ShowFault> {
-    let bytes = match front_of(rt, path) {
+    let bytes = match first_bytes(rt, path) {
         Ok(bytes) => bytes,
         Err(error) => return Err(ShowFault::Unreadable(error)),
     };

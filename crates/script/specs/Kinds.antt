@@ -1,4 +1,4 @@
--- The kinds of node: the code of each in a file, and its name.
+-- The kinds of node: the code of each in stored data, and its name.
 use mathlib.Core.Bool.{cond}
 use mathlib.Core.List.{List}
 use Prim.Native.Nat.{ℕ}

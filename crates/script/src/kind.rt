@@ -1,4 +1,4 @@
-// The kinds of node, with the code and the name of each.
+// The kinds of node, with the code that stands for each in stored data, and its name.
 ghost use mathlib.Core.Path.{_≡_};
 ghost use Rattle.std.specs.declared.option.Option.the-variants.{Some};
 ghost use Rattle.script.specs.declared.kind.Kind.{Kind};

@@ -19,8 +19,8 @@ use Rattle.script_file.specs.declared.file.Sizes.{Sizes}
 use Rattle.script.specs.declared.node.Node.{Node}
 use Rattle.script.specs.Scripts.{Script}
 use Rattle.script_file.specs.Format.{Within, file}
-use Rattle.script_file.specs.Laws.{Blamed, Cut-short, Early, Exact, FileOf, Lawful}
-use Rattle.script_file.specs.Reading.{There, and-then, answer, entries, mapped, node-at, placed, script-in, sizes-of, type-at}
+use Rattle.script_file.specs.Laws.{First-fault, Truncated, Decided-by-prefix, Exact, FileOf, Lawful}
+use Rattle.script_file.specs.Reading.{Readable, and-then, answer, entries, mapped, node-at, placed, script-in, sizes-of, type-at}
 use Rattle.script_file.proofs.Agree.{script-agrees}
 use Rattle.script_file.proofs.Blame.{blamed}
 use Rattle.script_file.proofs.Bytes.{Octets}
@@ -58,16 +58,16 @@ module _ (types nodes : ℕ) (bs : List ℕ) (bytes : Octets bs) where
           ∙ cond-false (ltb types (length (s .locals)) || ltb nodes (length (s .nodes))) (Err Room) (Ok s)
           (or-from _ _ (le-ltb types (length (s .locals)) (f .locals-fit)) (le-ltb nodes (length (s .nodes)) (f .nodes-fit)))
 
-  short : Cut-short bs (answer types nodes bs)
-  short s lost w some e =
+  truncated : Truncated bs (answer types nodes bs)
+  truncated s lost w some e =
       let p = cut-short bs lost bytes s w some e in
       (p .0, then-err (placed types nodes) (p .1))
 
-  early : Early types nodes bs (answer types nodes bs)
-  early other e = ap (λ (r : Result Script FileFault). and-then r (placed types nodes)) (script-agrees other bs e)
+  decided : Decided-by-prefix types nodes bs (answer types nodes bs)
+  decided other e = ap (λ (r : Result Script FileFault). and-then r (placed types nodes)) (script-agrees other bs e)
 
   -- a right file finds too little room
-  no-room : (s : Script) → script-in bs ≡ Ok s → placed types nodes s ≡ Err Room → Blamed types nodes bs Room
+  no-room : (s : Script) → script-in bs ≡ Ok s → placed types nodes s ≡ Err Room → First-fault types nodes bs Room
   no-room s e h =
       let rf = read-file bs bytes s (script-parts bs s e) in
       let p = stopped (ltb types (length (s .locals)) || ltb nodes (length (s .nodes))) Room s h in (
@@ -78,24 +78,22 @@ module _ (types nodes : ℕ) (bs : List ℕ) (bytes : Octets bs) where
             (λ (b : ltb nodes (length (s .nodes)) ≡ true). inr (ltb-true nodes (length (s .nodes)) b)) (or-cases _ _ (p .0)),
       )
 
-  blames : (f : FileFault) → answer types nodes bs ≡ Err f → Blamed types nodes bs f
+  blames : (f : FileFault) → answer types nodes bs ≡ Err f → First-fault types nodes bs f
   blames f h =
       elim (then-fault (script-in bs) (placed types nodes) h) [
         | inl e ↦ blamed types nodes bs bytes e
         | inr p ↦
             let s = p .0 in
             let q = stopped (ltb types (length (s .locals)) || ltb nodes (length (s .nodes))) Room s (p .2) in
-            subst (Blamed types nodes bs) (q .1) (no-room s (p .1) (p .2 ∙ ap (λ (g : FileFault). Err g) (sym (q .1))))
+            subst (First-fault types nodes bs) (q .1) (no-room s (p .1) (p .2 ∙ ap (λ (g : FileFault). Err g) (sym (q .1))))
       ]
 
-  refusal : (r : Result Script FileFault) → answer types nodes bs ≡ r → refused r (Blamed types nodes bs)
+  refusal : (r : Result Script FileFault) → answer types nodes bs ≡ r → refused r (First-fault types nodes bs)
   refusal (Ok s) h = tt
   refusal (Err f) h = blames f h
 
-  pub lawful : (r : Result Script FileFault) → r ≡ answer types nodes bs → Lawful types nodes bs r
-  lawful r e =
-      subst (Lawful types nodes bs) (sym e)
-      (record { exact = exact; short = short; blamed = refusal (answer types nodes bs) refl; early = early })
+  pub lawful : Lawful types nodes bs (answer types nodes bs)
+  lawful = record { exact = exact; truncated = truncated; first-fault = refusal (answer types nodes bs) refl; decided = decided }
 
   pub answer-fault : {f : FileFault} → mapped sizes-of (script-in bs) ≡ Err f → answer types nodes bs ≡ Err f
   answer-fault h = then-err (placed types nodes) (mapped-fault sizes-of (script-in bs) h)
@@ -169,8 +167,8 @@ module _ (types nodes : ℕ) (bs : List ℕ) (bytes : Octets bs) where
           let xs : s .nodes ≡ put = let h = t .nodes-there in cc in
           whole ∙ (λ i. Ok (record { locals = ts i; labels = k i; nodes = xs i }))
 
-      pub answer-there : There types nodes bs z
-      answer-there = record {
+      pub answer-readable : Readable types nodes bs z
+      answer-readable = record {
         types-fit = a;
         nodes-fit = b;
         few-types = tested .few-locals;

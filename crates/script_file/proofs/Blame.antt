@@ -22,15 +22,15 @@ use Rattle.script_file.specs.declared.fault.FileFault.{FileFault}
 use Rattle.script_file.specs.declared.fault.FileFault.the-variants.{Cut, Count, TypeCode, Trailing}
 use Rattle.script.specs.declared.node.Node.{Node}
 use Rattle.script.specs.Scripts.{Script}
-use Rattle.script_file.specs.Format.{Fits, Within, file, node-bytes, node-of, number-of, part, type-bytes}
-use Rattle.script_file.specs.Laws.{Blamed, Dead-end, Right-before}
+use Rattle.script_file.specs.Format.{Node-fits, Within, file, node-bytes, node-of, number-of, part, type-bytes}
+use Rattle.script_file.specs.Laws.{First-fault, No-file-begins, Valid-before}
 use Rattle.script_file.specs.Reading.{and-then, chunk-at, count-at, end-at, entries, labels-in, limited, locals-in, node-at, nodes-in, script-in, section, type-at}
 use Rattle.script_file.proofs.Agree.{count-agrees, type-agrees}
 use Rattle.script_file.proofs.Bytes.{Octets}
 use Rattle.script_file.proofs.OfFile.{file-parts}
 use Rattle.script_file.proofs.Sections.{entries-length, script-stages, section-parts, then-end, then-labels, then-nodes}
 use Rattle.script_file.proofs.ToFile.{count-parts, entries-stand, node-stands, type-stands}
-use Rattle.script_file.proofs.Witness.{after-count, begun, count-front, labels-front, longer, right-at-count, right-at-labels, right-at-node, right-at-start, right-at-type, types-front}
+use Rattle.script_file.proofs.Witness.{after-count, begun, count-front, labels-front, longer, valid-at-count, valid-at-labels, valid-at-node, valid-at-start, valid-at-type, types-front}
 use Rattle.script_file.proofs.Then.{not-both, passed, stopped, then-fault, then-ok, then-parts}
 
 -- the first entry that is wrong, and the right ones before it
@@ -136,7 +136,7 @@ module _ (bs : List ℕ) where
   section-split at size o least most h = then-fault (count-at bs o least most) (entries (at bs) size (o + 2)) h
 
   -- a file that begins with these bytes would be read otherwise
-  dead-locals : {f : FileFault} → count-at bs 0 0 64 ≡ Err f → Dead-end bs 2
+  dead-locals : {f : FileFault} → count-at bs 0 0 64 ≡ Err f → No-file-begins bs 2
   dead-locals h s w same =
       let locals = section-parts (file s) type-at 1 0 0 64 (file-parts s w .locals) in
       not-both (count-agrees bs (file s) 2 same 0 0 64 (omega arith) ∙ locals .0) h
@@ -148,7 +148,7 @@ module _ (bs : List ℕ) where
         let e = sym counted ∙ count-agrees bs (file s) k same 0 0 64 h ∙ locals .0 in
         cc
 
-    dead-type : (i : ℕ) {f : FileFault} → i < l → type-at bs (2 + i) ≡ Err f → Dead-end bs (2 + i + 1)
+    dead-type : (i : ℕ) {f : FileFault} → i < l → type-at bs (2 + i) ≡ Err f → No-file-begins bs (2 + i + 1)
     dead-type i inside h s w same =
         let locals = section-parts (file s) type-at 1 0 0 64 (file-parts s w .locals) in
         let e = same-locals s w (2 + i + 1) (omega arith) same in
@@ -156,12 +156,12 @@ module _ (bs : List ℕ) where
         let p : 2 + i ≡ 2 + i * 1 = omega arith in
         not-both (type-agrees bs (file s) (2 + i + 1) same (2 + i) (omega arith) ∙ ap (type-at (file s)) p ∙ there .1) h
 
-    dead-labels : {f : FileFault} → labels-in bs l ≡ Err f → Dead-end bs (2 + l + 2)
+    dead-labels : {f : FileFault} → labels-in bs l ≡ Err f → No-file-begins bs (2 + l + 2)
     dead-labels h s w same =
         let e = same-locals s w (2 + l + 2) (omega arith) same in
         not-both (count-agrees bs (file s) (2 + l + 2) same (2 + l) 0 32 (omega arith) ∙ ap (λ (n : ℕ). labels-in (file s) n) e ∙ file-parts s w .labels) h
 
-    dead-nodes : {f : FileFault} → count-at bs (4 + l) 1 1024 ≡ Err f → Dead-end bs (4 + l + 2)
+    dead-nodes : {f : FileFault} → count-at bs (4 + l) 1 1024 ≡ Err f → No-file-begins bs (4 + l + 2)
     dead-nodes h s w same =
         let e = same-locals s w (4 + l + 2) (omega arith) same in
         let nodes = section-parts (file s) node-at 14 (4 + length (s .locals)) 1 1024 (file-parts s w .nodes) in
@@ -169,19 +169,19 @@ module _ (bs : List ℕ) where
 
 -- the number of a fault and what was found of its part make what the refusal says
 module _ (types nodes : ℕ) (bs : List ℕ) where
-  blamed-cut : (o size : ℕ) {f : FileFault} → Right-before bs o size → o ≤ length bs → (f ≡ Cut o) × (length bs < o + size) → Blamed types nodes bs f
-  blamed-cut o size right reached p = subst (Blamed types nodes bs) (sym (p .0)) (size, right, reached, p .1)
+  blamed-cut : (o size : ℕ) {f : FileFault} → Valid-before bs o size → o ≤ length bs → (f ≡ Cut o) × (length bs < o + size) → First-fault types nodes bs f
+  blamed-cut o size right reached p = subst (First-fault types nodes bs) (sym (p .0)) (size, right, reached, p .1)
 
-  blamed-count : (o : ℕ) {f : FileFault} → Right-before bs o 2 → o ≤ length bs → Dead-end bs (o + 2) → Wrong bs f o 2 (Count o) → Blamed types nodes bs f
+  blamed-count : (o : ℕ) {f : FileFault} → Valid-before bs o 2 → o ≤ length bs → No-file-begins bs (o + 2) → Wrong bs f o 2 (Count o) → First-fault types nodes bs f
   blamed-count o right reached dead (inl p) = blamed-cut o 2 right reached p
-  blamed-count o right reached dead (inr p) = subst (Blamed types nodes bs) (sym (p .0)) (right, p .1, dead)
+  blamed-count o right reached dead (inr p) = subst (First-fault types nodes bs) (sym (p .0)) (right, p .1, dead)
 
-  blamed-type : (o : ℕ) {f : FileFault} → Right-before bs o 1 → o ≤ length bs → Dead-end bs (o + 1) → Wrong bs f o 1 (TypeCode o) → Blamed types nodes bs f
+  blamed-type : (o : ℕ) {f : FileFault} → Valid-before bs o 1 → o ≤ length bs → No-file-begins bs (o + 1) → Wrong bs f o 1 (TypeCode o) → First-fault types nodes bs f
   blamed-type o right reached dead (inl p) = blamed-cut o 1 right reached p
-  blamed-type o right reached dead (inr p) = subst (Blamed types nodes bs) (sym (p .0)) (right, p .1, dead)
+  blamed-type o right reached dead (inr p) = subst (First-fault types nodes bs) (sym (p .0)) (right, p .1, dead)
 
   module _ (bytes : Octets bs) where
-    wrong-type : (l : ℕ) {f : FileFault} → count-at bs 0 0 64 ≡ Ok l → First-wrong (type-at bs) 1 2 l f → Blamed types nodes bs f
+    wrong-type : (l : ℕ) {f : FileFault} → count-at bs 0 0 64 ≡ Ok l → First-wrong (type-at bs) 1 2 l f → First-fault types nodes bs f
     wrong-type l counted w =
         let i = w .index in
         let c = count-parts bs bytes 0 0 64 counted in
@@ -191,12 +191,12 @@ module _ (types nodes : ℕ) (bs : List ℕ) where
         let front = longer bs 2 (i * 1) (c .3) (stand .back) ∙ ap (λ (o : ℕ). take o bs) once in
         let long = entries-length (type-at bs) 1 2 i (w .before) in
         let wrong = sym (ap (type-at bs) once) ∙ w .wrong in
-        blamed-type (2 + i) (right-at-type bs l i (w .right) (c .1) (w .inside) long reached front) reached (dead-type bs l counted i (w .inside) wrong) (type-wrong bs (2 + i) wrong)
+        blamed-type (2 + i) (valid-at-type bs l i (w .right) (c .1) (w .inside) long reached front) reached (dead-type bs l counted i (w .inside) wrong) (type-wrong bs (2 + i) wrong)
 
-    wrong-locals : {f : FileFault} → locals-in bs ≡ Err f → Blamed types nodes bs f
+    wrong-locals : {f : FileFault} → locals-in bs ≡ Err f → First-fault types nodes bs f
     wrong-locals h =
         elim (section-split bs type-at 1 0 0 64 h) [
-          | inl e ↦ blamed-count 0 (right-at-start bs) (omega arith) (dead-locals bs e) (count-wrong bs 0 0 64 e)
+          | inl e ↦ blamed-count 0 (valid-at-start bs) (omega arith) (dead-locals bs e) (count-wrong bs 0 0 64 e)
           | inr p ↦ wrong-type (p .0) (p .1) (first-wrong (type-at bs) 1 2 (p .0) (p .2))
         ]
 
@@ -216,10 +216,10 @@ module _ (types nodes : ℕ) (bs : List ℕ) where
           let once : 2 + length xs * 1 ≡ 2 + length xs = omega arith in
           (longer bs 2 (length xs * 1) (c .3) (stand .back) ∙ ap (λ (o : ℕ). take o bs) once, omega (arith, stand .whole))
 
-      wrong-labels : {f : FileFault} → labels-in bs (length xs) ≡ Err f → Blamed types nodes bs f
+      wrong-labels : {f : FileFault} → labels-in bs (length xs) ≡ Err f → First-fault types nodes bs f
       wrong-labels h =
           let front = locals-front in
-          blamed-count (2 + length xs) (right-at-labels bs xs few (front .1) (front .0)) (front .1) (dead-labels bs (length xs) counted h) (count-wrong bs (2 + length xs) 0 32 h)
+          blamed-count (2 + length xs) (valid-at-labels bs xs few (front .1) (front .0)) (front .1) (dead-labels bs (length xs) counted h) (count-wrong bs (2 + length xs) 0 32 h)
 
       module _ (labels : ℕ) (labelled : labels-in bs (length xs) ≡ Ok labels) where
         few-labels : labels ≤ 32
@@ -231,55 +231,55 @@ module _ (types nodes : ℕ) (bs : List ℕ) where
             let two : 2 + length xs + 2 ≡ 4 + length xs = omega arith in
             (longer bs (2 + length xs) 2 (locals-front .0) (c .3) ∙ ap (λ (o : ℕ). take o bs) two, omega (arith, c .2))
 
-        wrong-count : {f : FileFault} → count-at bs (4 + length xs) 1 1024 ≡ Err f → Blamed types nodes bs f
+        wrong-count : {f : FileFault} → count-at bs (4 + length xs) 1 1024 ≡ Err f → First-fault types nodes bs f
         wrong-count h =
             let front = labels-there in
-            blamed-count (4 + length xs) (right-at-count bs xs few labels few-labels (front .1) (front .0)) (front .1) (dead-nodes bs (length xs) counted h) (count-wrong bs (4 + length xs) 1 1024 h)
+            blamed-count (4 + length xs) (valid-at-count bs xs few labels few-labels (front .1) (front .0)) (front .1) (dead-nodes bs (length xs) counted h) (count-wrong bs (4 + length xs) 1 1024 h)
 
         -- so many nodes that are right
         nodes-there : (n i : ℕ) {ys : List Node} → count-at bs (4 + length xs) 1 1024 ≡ Ok n → entries (node-at bs) 14 (4 + length xs + 2) i ≡ Ok ys
-            → (count-front bs xs few labels n ++ joined node-bytes ys ≡ take (6 + length xs + i * 14) bs) × (6 + length xs + i * 14 ≤ length bs) × All Fits ys
+            → (count-front bs xs few labels n ++ joined node-bytes ys ≡ take (6 + length xs + i * 14) bs) × (6 + length xs + i * 14 ≤ length bs) × All Node-fits ys
         nodes-there n i c e =
             let k = count-parts bs bytes (4 + length xs) 1 1024 c in
-            let stand = entries-stand bs node-at node-bytes 14 Fits (node-stands bs bytes) (4 + length xs + 2) i (k .2) e in
+            let stand = entries-stand bs node-at node-bytes 14 Node-fits (node-stands bs bytes) (4 + length xs + 2) i (k .2) e in
             let six : 4 + length xs + 2 + i * 14 ≡ 6 + length xs + i * 14 = omega arith in (
               longer bs (4 + length xs + 2) (i * 14) (longer bs (4 + length xs) 2 (labels-there .0) (k .3)) (stand .back) ∙ ap (λ (o : ℕ). take o bs) six,
               omega (arith, stand .whole),
               stand .good,
             )
 
-        wrong-node : (n : ℕ) {f : FileFault} → count-at bs (4 + length xs) 1 1024 ≡ Ok n → First-wrong (node-at bs) 14 (4 + length xs + 2) n f → Blamed types nodes bs f
+        wrong-node : (n : ℕ) {f : FileFault} → count-at bs (4 + length xs) 1 1024 ≡ Ok n → First-wrong (node-at bs) 14 (4 + length xs + 2) n f → First-fault types nodes bs f
         wrong-node n c w =
             let i = w .index in
             let there = nodes-there n i c (w .before) in
             let six : 4 + length xs + 2 + i * 14 ≡ 6 + length xs + i * 14 = omega arith in
             let long = entries-length (node-at bs) 14 (4 + length xs + 2) i (w .before) in
             let few-nodes = count-parts bs bytes (4 + length xs) 1 1024 c .1 in
-            let right = right-at-node bs xs few labels n i (w .right) few-labels few-nodes (w .inside) long (there .2) (there .1) (there .0) in
+            let right = valid-at-node bs xs few labels n i (w .right) few-labels few-nodes (w .inside) long (there .2) (there .1) (there .0) in
             blamed-cut (6 + length xs + i * 14) 14 right (there .1) (node-wrong bs (6 + length xs + i * 14) (sym (ap (node-at bs) six) ∙ w .wrong))
 
-        wrong-nodes : {f : FileFault} → nodes-in bs (length xs) ≡ Err f → Blamed types nodes bs f
+        wrong-nodes : {f : FileFault} → nodes-in bs (length xs) ≡ Err f → First-fault types nodes bs f
         wrong-nodes h =
             elim (section-split bs node-at 14 (4 + length xs) 1 1024 h) [
               | inl e ↦ wrong-count e
               | inr p ↦ wrong-node (p .0) (p .1) (first-wrong (node-at bs) 14 (4 + length xs + 2) (p .0) (p .2))
             ]
 
-        wrong-end : (ys : List Node) {f : FileFault} → nodes-in bs (length xs) ≡ Ok ys → end-at bs (6 + length xs + length ys * 14) ≡ Err f → Blamed types nodes bs f
+        wrong-end : (ys : List Node) {f : FileFault} → nodes-in bs (length xs) ≡ Ok ys → end-at bs (6 + length xs + length ys * 14) ≡ Err f → First-fault types nodes bs f
         wrong-end ys e h =
             let o = 6 + length xs + length ys * 14 in
             let p = stopped (ltb o (length bs)) (Trailing o) tt h in
             let ns = section-parts bs node-at 14 (4 + length xs) 1 1024 e in
             let c = count-parts bs bytes (4 + length xs) 1 1024 (ns .0) in
             let there = nodes-there (length ys) (length ys) (ns .0) (ns .1) in
-            subst (Blamed types nodes bs) (p .1) (
+            subst (First-fault types nodes bs) (p .1) (
               begun bs xs few labels ys,
               record { locals = few; labels = few-labels; least = c .0; nodes = c .1; fits = there .2 },
               sym (there .0) ∙ sym (after-count bs xs few labels ys),
               ltb-true o (length bs) (p .0),
             )
 
-    pub blamed : {f : FileFault} → script-in bs ≡ Err f → Blamed types nodes bs f
+    pub blamed : {f : FileFault} → script-in bs ≡ Err f → First-fault types nodes bs f
     blamed h =
         elim (then-fault (locals-in bs) (then-labels bs) (sym (script-stages bs) ∙ h)) [
           | inl e ↦ wrong-locals e

@@ -25,7 +25,7 @@ use Rattle.script_file.specs.declared.fault.FileFault.{FileFault}
 use Rattle.script_file.specs.declared.fault.FileFault.the-variants.{Cut, Count, TypeCode}
 use Rattle.script.specs.declared.node.Node.{Node}
 use Rattle.script.specs.Scripts.{Script}
-use Rattle.script_file.specs.Format.{Fits, Within, bytes-of, number-of, part, type-bytes, node-bytes, node-of, file}
+use Rattle.script_file.specs.Format.{Node-fits, Within, bytes-of, number-of, part, type-bytes, node-bytes, node-of, file}
 use Rattle.script_file.specs.Reading.{and-then, chunk-at, limited, count-at, type-at, node-at, entries, section, script-in}
 use Rattle.script_file.proofs.Bytes.{length-bytes-of, number-of-bytes-of, part-between}
 use Rattle.script_file.proofs.Sections.{Parts, section-of, script-from-parts}
@@ -62,7 +62,7 @@ type-between before behind o t e =
 length-node-bytes : (n : Node) → length (node-bytes n) ≡ 14
 length-node-bytes n = refl
 
-node-of-bytes : (n : Node) → Fits n → node-of (node-bytes n) ≡ n
+node-of-bytes : (n : Node) → Node-fits n → node-of (node-bytes n) ≡ n
 node-of-bytes n f =
     let up : number-of (bytes-of 2 (n .up .0)) ≡ n .up .0 = number-of-bytes-of 2 (n .up .0) (f .up) in
     let end : number-of (bytes-of 2 (n .end .0)) ≡ n .end .0 = number-of-bytes-of 2 (n .end .0) (f .end) in
@@ -71,7 +71,7 @@ node-of-bytes n f =
     ap (toZ w64) (number-of-bytes-of 8 (ofZ w64 (n .number)) bits) ∙ toZ-ofZ w64 (n .number) (f .number) in
     λ i. record { kind = n .kind; detail = n .detail; up = record { 0 = up i }; end = record { 0 = end i }; number = number i }
 
-pub node-between : (before behind : List ℕ) (o : ℕ) (n : Node) → Fits n → length before ≡ o → node-at (before ++ (node-bytes n ++ behind)) o ≡ Ok n
+pub node-between : (before behind : List ℕ) (o : ℕ) (n : Node) → Node-fits n → length before ≡ o → node-at (before ++ (node-bytes n ++ behind)) o ≡ Ok n
 node-between before behind o n f e =
     then-ok (λ bytes. Ok (node-of bytes)) (chunk-between before (node-bytes n) behind o 14 e (length-node-bytes n))
     ∙ ap (λ (m : Node). Ok m) (node-of-bytes n f)
@@ -141,7 +141,7 @@ file-parts s w =
           [] (bs ++ (ns ++ xs)) 0 0 64 (s .locals) (any (s .locals)) refl (omega arith) (w .locals) (omega (arith, w .locals));
       labels = ap (λ (t : List ℕ). count-at t (2 + l) 0 32) two ∙ count-between (ls ++ ts) (ns ++ xs) (2 + l) (s .labels) 0 32 o2 (omega arith) (w .labels) (omega (arith, w .labels));
       nodes = ap (λ (t : List ℕ). section t node-at 14 (4 + l) 1 1024) three
-          ∙ section-between node-at node-bytes 14 Fits length-node-bytes (λ before behind o m f e. node-between before behind o m f e)
+          ∙ section-between node-at node-bytes 14 Node-fits length-node-bytes (λ before behind o m f e. node-between before behind o m f e)
           ((ls ++ ts) ++ bs) [] (4 + l) 1 1024 (s .nodes) (w .fits) o3 (w .least) (w .nodes) (omega (arith, w .nodes));
       end = cond-false (ltb (6 + l + n * 14) (length (file s))) _ _ (le-ltb (6 + l + n * 14) (length (file s)) (omega arith));
     }

@@ -28,7 +28,7 @@ use Rattle.script_file.specs.declared.fault.FileFault.{FileFault}
 use Rattle.script_file.specs.declared.fault.FileFault.the-variants.{Cut, Count, TypeCode, Trailing}
 use Rattle.script.specs.declared.node.Node.{Node}
 use Rattle.script.specs.Scripts.{Script}
-use Rattle.script_file.specs.Format.{Fits, Within, bytes-of, number-of, part, type-bytes, node-bytes, node-of, file}
+use Rattle.script_file.specs.Format.{Node-fits, Within, bytes-of, number-of, part, type-bytes, node-bytes, node-of, file}
 use Rattle.script_file.specs.Reading.{and-then, chunk-at, limited, count-at, type-at, node-at, entries}
 use Rattle.script_file.proofs.Bytes.{Octets, bytes-of-number-of, number-of-small, length-part, part-part}
 use Rattle.script_file.proofs.Sections.{Parts, section-parts}
@@ -96,7 +96,7 @@ module _ (w : List ℕ) (bytes : Octets w) where
       ap (λ (v : List ℕ). getD w 0 0 ∷ getD w 1 0 ∷ v) (ap₂ _++_ up (ap₂ _++_ end bits) ∙ tail)
       ∙ ap (λ (v : List ℕ). getD w 0 0 ∷ v) (sym (drop-more w 1 0 (omega arith))) ∙ sym (drop-more w 0 0 (omega arith))
 
-  node-fits : length w ≡ 14 → Fits (node-of w)
+  node-fits : length w ≡ 14 → Node-fits (node-of w)
   node-fits e =
       let word : (o : ℕ) → o + 2 ≤ 14 → number-of (part o 2 w) < 65536 =
       λ o h. let two : length (part o 2 w) ≡ 2 = length-part o w 2 (omega arith) in
@@ -131,7 +131,7 @@ module _ (bs : List ℕ) (bytes : Octets bs) where
         good = tt;
       }
 
-  pub node-stands : (o : ℕ) (n : Node) → node-at bs o ≡ Ok n → Stands bs node-bytes 14 Fits o n
+  pub node-stands : (o : ℕ) (n : Node) → node-at bs o ≡ Ok n → Stands bs node-bytes 14 Node-fits o n
   node-stands o n h =
       let p = then-parts (chunk-at bs o 14) (λ w. Ok (node-of w)) h in
       let q = chunk-parts bs bytes o 14 (p .1) in
@@ -141,7 +141,7 @@ module _ (bs : List ℕ) (bytes : Octets bs) where
       record {
         whole = q .0;
         back = ap node-bytes (sym e) ∙ node-back w (part-octets bs bytes o 14) long;
-        good = subst Fits e (node-fits w (part-octets bs bytes o 14) long);
+        good = subst Node-fits e (node-fits w (part-octets bs bytes o 14) long);
       }
 
 -- entries that were read, one after the other
@@ -184,7 +184,7 @@ module _ (bs : List ℕ) (bytes : Octets bs) where
       let ks = count-parts bs bytes (2 + l) 0 32 (parts .labels) in
       let nodes = section-parts bs node-at 14 (4 + l) 1 1024 (parts .nodes) in
       let ns = count-parts bs bytes (4 + l) 1 1024 (nodes .0) in
-      let xs = entries-stand bs node-at node-bytes 14 Fits (node-stands bs bytes) (4 + l + 2) n (ns .2) (nodes .1) in
+      let xs = entries-stand bs node-at node-bytes 14 Node-fits (node-stands bs bytes) (4 + l + 2) n (ns .2) (nodes .1) in
       let end = ltb-false (6 + l + n * 14) (length bs) (passed (ltb (6 + l + n * 14) (length bs)) (Trailing (6 + l + n * 14)) tt (parts .end) .0) in
       let all : file s ≡ part 0 2 bs ++ (part 2 (l * 1) bs ++ (part (2 + l) 2 bs ++ (part (4 + l) 2 bs ++ part (4 + l + 2) (n * 14) bs))) =
       ap₂ _++_ (ls .3) (ap₂ _++_ (ts .back) (ap₂ _++_ (ks .3) (ap₂ _++_ (ns .3) (xs .back)))) in

@@ -14,16 +14,16 @@ use Rattle.java.specs.declared.types.Primitive.{Primitive}
 use Rattle.java.specs.declared.types.Primitive.the-variants.{Boolean}
 use Rattle.script.specs.declared.node.Node.{Node}
 use Rattle.script.specs.Scripts.{Script}
-use Rattle.script_file.specs.Format.{Fits, bytes-of, file, node-bytes, part, type-bytes}
-use Rattle.script_file.specs.Laws.{Right-before, labels-count, locals-count, node, nodes-count, type-code}
+use Rattle.script_file.specs.Format.{Node-fits, bytes-of, file, node-bytes, part, type-bytes}
+use Rattle.script_file.specs.Laws.{Valid-before, code-of-local, labels-count, locals-count, node-at-place, nodes-count}
 
 abbrev plain : Node
 plain = record { kind = 0; detail = 0; up = record { 0 = 0 }; end = record { 0 = 0 }; number = pos 0 }
 
-plain-fits : Fits plain
+plain-fits : Node-fits plain
 plain-fits = record { kind = omega arith; detail = omega arith; up = omega arith; end = omega arith; number = record { sfits = omega arith } }
 
-all-plain : (n : ℕ) → All Fits (replicate n plain)
+all-plain : (n : ℕ) → All Node-fits (replicate n plain)
 all-plain zero = tt
 all-plain (suc n) = (plain-fits, all-plain n)
 
@@ -42,17 +42,17 @@ module _ (bs : List ℕ) where
       let long : length front ≡ o = ap length e ∙ length-take o bs ∙ omega arith in
       sym (ap (take o) w ∙ take-at front rest o long ∙ e)
 
-  pub right-at-start : Right-before bs 0 2
-  right-at-start = record {
+  pub valid-at-start : Valid-before bs 0 2
+  valid-at-start = record {
     script = record { locals = []; labels = 0; nodes = plain ∷ [] };
     within = record { locals = omega arith; labels = omega arith; least = omega arith; nodes = omega arith; fits = (plain-fits, tt) };
     begins = locals-count;
     same = refl;
   }
 
-  pub right-at-type : (locals i : ℕ) (types : List Primitive) → locals ≤ 64 → i < locals → length types ≡ i → 2 + i ≤ length bs
-      → bytes-of 2 locals ++ joined type-bytes types ≡ take (2 + i) bs → Right-before bs (2 + i) 1
-  right-at-type locals i types few inside long reached e =
+  pub valid-at-type : (locals i : ℕ) (types : List Primitive) → locals ≤ 64 → i < locals → length types ≡ i → 2 + i ≤ length bs
+      → bytes-of 2 locals ++ joined type-bytes types ≡ take (2 + i) bs → Valid-before bs (2 + i) 1
+  valid-at-type locals i types few inside long reached e =
       let pad = replicate (locals - i) Boolean in
       let all = types ++ pad in
       let count : length all ≡ locals = omega (arith, length-append types pad, length-replicate (locals - i) Boolean) in
@@ -65,7 +65,7 @@ module _ (bs : List ℕ) where
       record {
         script = s;
         within = record { locals = omega arith; labels = omega arith; least = omega arith; nodes = omega arith; fits = (plain-fits, tt) };
-        begins = type-code i (omega arith);
+        begins = code-of-local i (omega arith);
         same = same-front (bytes-of 2 locals ++ joined type-bytes types) rest (file s) (2 + i) e reached cut;
       }
 
@@ -92,26 +92,26 @@ module _ (bs : List ℕ) where
     pub after-count : (labels : ℕ) (nodes : List Node) → file (begun labels nodes) ≡ count-front labels (length nodes) ++ joined node-bytes nodes
     after-count labels nodes = after-labels labels nodes ∙ sym (append-assoc (labels-front labels) (bytes-of 2 (length nodes)) (joined node-bytes nodes))
 
-    pub right-at-labels : 2 + length types ≤ length bs → types-front ≡ take (2 + length types) bs → Right-before bs (2 + length types) 2
-    right-at-labels reached e = record {
+    pub valid-at-labels : 2 + length types ≤ length bs → types-front ≡ take (2 + length types) bs → Valid-before bs (2 + length types) 2
+    valid-at-labels reached e = record {
       script = begun 0 (plain ∷ []);
       within = record { locals = few; labels = omega arith; least = omega arith; nodes = omega arith; fits = (plain-fits, tt) };
       begins = labels-count;
       same = same-front types-front _ (file (begun 0 (plain ∷ []))) (2 + length types) e reached (after-types 0 (plain ∷ []));
     }
 
-    pub right-at-count : (labels : ℕ) → labels ≤ 32 → 4 + length types ≤ length bs → labels-front labels ≡ take (4 + length types) bs → Right-before bs (4 + length types) 2
-    right-at-count labels few-labels reached e = record {
+    pub valid-at-count : (labels : ℕ) → labels ≤ 32 → 4 + length types ≤ length bs → labels-front labels ≡ take (4 + length types) bs → Valid-before bs (4 + length types) 2
+    valid-at-count labels few-labels reached e = record {
       script = begun labels (plain ∷ []);
       within = record { locals = few; labels = few-labels; least = omega arith; nodes = omega arith; fits = (plain-fits, tt) };
       begins = nodes-count;
       same = same-front (labels-front labels) _ (file (begun labels (plain ∷ []))) (4 + length types) e reached (after-labels labels (plain ∷ []));
     }
 
-    pub right-at-node : (labels nodes i : ℕ) (right : List Node) → labels ≤ 32 → nodes ≤ 1024 → i < nodes → length right ≡ i → All Fits right
+    pub valid-at-node : (labels nodes i : ℕ) (right : List Node) → labels ≤ 32 → nodes ≤ 1024 → i < nodes → length right ≡ i → All Node-fits right
         → 6 + length types + i * 14 ≤ length bs → count-front labels nodes ++ joined node-bytes right ≡ take (6 + length types + i * 14) bs
-        → Right-before bs (6 + length types + i * 14) 14
-    right-at-node labels nodes i right few-labels few-nodes inside long fit reached e =
+        → Valid-before bs (6 + length types + i * 14) 14
+    valid-at-node labels nodes i right few-labels few-nodes inside long fit reached e =
         let pad = replicate (nodes - i) plain in
         let all = right ++ pad in
         let count : length all ≡ nodes = omega (arith, length-append right pad, length-replicate (nodes - i) plain) in
@@ -122,7 +122,7 @@ module _ (bs : List ℕ) where
         ∙ sym (append-assoc (count-front labels nodes) (joined node-bytes right) (joined node-bytes pad)) in
         record {
           script = s;
-          within = record { locals = few; labels = few-labels; least = omega arith; nodes = omega arith; fits = all-append Fits right pad fit (all-plain (nodes - i)) };
-          begins = node i (omega arith);
+          within = record { locals = few; labels = few-labels; least = omega arith; nodes = omega arith; fits = all-append Node-fits right pad fit (all-plain (nodes - i)) };
+          begins = node-at-place i (omega arith);
           same = same-front (count-front labels nodes ++ joined node-bytes right) (joined node-bytes pad) (file s) (6 + length types + i * 14) e reached cut;
         }

@@ -51,7 +51,7 @@ file s =
     ++ (bytes-of 2 (s .labels) ++ (bytes-of 2 (length (s .nodes)) ++ joined node-bytes (s .nodes))))
 
 -- each field of a node fits its bytes
-pub record Fits (n : Node) : Type 0 where
+pub record Node-fits (n : Node) : Type 0 where
   pub kind : n .kind < 256
   pub detail : n .detail < 256
   pub up : n .up .0 < 65536
@@ -64,4 +64,4 @@ pub record Within (s : Script) : Type 0 where
   pub labels : s .labels ≤ 32
   pub least : 1 ≤ length (s .nodes)
   pub nodes : length (s .nodes) ≤ 1024
-  pub fits : All Fits (s .nodes)
+  pub fits : All Node-fits (s .nodes)

@@ -98,7 +98,7 @@ abbrev pub front : Sizes → List Primitive → List Node → Script
 front z types nodes = record { locals = take (z .locals) types; labels = z .labels; nodes = take (z .nodes) nodes }
 
 -- a file was tested: its entries can be read, the tables have room for them, and they make the script that is answered
-pub record There (types nodes : ℕ) (bs : List ℕ) (z : Sizes) : Type 0 where
+pub record Readable (types nodes : ℕ) (bs : List ℕ) (z : Sizes) : Type 0 where
   pub types-fit : z .locals ≤ types
   pub nodes-fit : z .nodes ≤ nodes
   pub few-types : z .locals ≤ 64

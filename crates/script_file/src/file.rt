@@ -3,11 +3,8 @@ ghost use mathlib.Core.Path.{_≡_};
 ghost use Prim.Native.Nat.{_+_, _*_, _^_, _≤_, _<_};
 ghost use lib.ListN.{length};
 ghost use Rattle.std.specs.Vec.{made};
-ghost use Rattle.std.specs.declared.result.Result.{Result};
-ghost use Rattle.script.specs.Scripts.{Script};
-ghost use Rattle.script_file.specs.declared.fault.FileFault.{FileFault};
-ghost use Rattle.script_file.specs.Laws.{Lawful};
-ghost use Rattle.script_file.specs.Reading.{Leaves, There, answer, front, labels-in, locals-in, mapped, nodes-in, script-in, section, sizes-of};
+ghost use Rattle.script_file.specs.Laws.{Lawful, deciding};
+ghost use Rattle.script_file.specs.Reading.{Leaves, Readable, answer, front, labels-in, locals-in, mapped, nodes-in, script-in, section, sizes-of};
 use crate::fault::FileFault;
 use crate::parts::Entry;
 use crate::parts::NodeEntry;
@@ -34,7 +31,14 @@ pub const MOST_LABELS: usize = 32;
 pub const MOST_NODES: usize = 1024;
 
 // The longest file: three counts, the locals and the nodes.
-pub const MOST_BYTES: usize = 14_406;
+pub const MOST_BYTES: usize = 6 + MOST_LOCALS + MOST_NODES * 14;
+
+// How many bytes of a file are enough to read: what follows them does not change the answer.
+pub fn deciding_bytes() -> usize
+    ensures { λ r. ⌜ r ≡ deciding ⌝ }
+{
+    MOST_BYTES + 1
+}
 
 // Tests a section of entries behind their count, and answers the count.
 fn section_at<E: Entry>(bytes: &[u8], at: u16, least: u16, most: u16) -> Result<u16, FileFault>
@@ -87,8 +91,8 @@ fn sizes_in(bytes: &[u8]) -> Result<Sizes, FileFault>
 // Tests the whole file, and last whether tables of so many types and nodes have room for its script.
 fn tested_sizes(bytes: &[u8], types: usize, nodes: usize) -> Result<Sizes, FileFault>
     ensures value { λ r. ⌜ r ≡ mapped sizes-of (answer types nodes (now (bytes .entry))) ⌝ }
-    ensures there { λ r. ⌜ made r (λ z. There types nodes (now (bytes .entry)) z) ⌝ }
-    ensures lawful { λ _. ⌜ ((script : Result Script FileFault) → script ≡ answer types nodes (now (bytes .entry)) → Lawful types nodes (now (bytes .entry)) script) ⌝ }
+    ensures readable { λ r. ⌜ made r (λ z. Readable types nodes (now (bytes .entry)) z) ⌝ }
+    ensures lawful { λ _. ⌜ Lawful types nodes (now (bytes .entry)) (answer types nodes (now (bytes .entry))) ⌝ }
 {
     let sizes = sizes_in(bytes)?;
     if types < sizes.locals as usize || nodes < sizes.nodes as usize {

@@ -14,4 +14,5 @@ pub use file::MOST_NODES;
 pub use file::Sizes;
 pub use file::SizesDebug;
 pub use file::SizesPartialEq;
+pub use file::deciding_bytes;
 pub use file::read;

@@ -5,7 +5,7 @@ use Rattle.listing.specs.Depth.{depth-of}
 use Rattle.listing.proofs.lines.depth_at.Given as given
 
 abbrev pub Inv-loop-node : given.InvT-loop-node
-Inv-loop-node l = (depth-of (l .nodes) (l .place) ≡ l .above + depth-of (l .nodes) (l .at)) × (l .above + l .at ≤ l .place)
+Inv-loop-node l = (depth-of (l .nodes) (l .entry .at) ≡ l .above + depth-of (l .nodes) (l .at)) × (l .above + l .at ≤ l .entry .at)
 
 abbrev pub μ-loop-node : given.MeasureT-loop-node
 μ-loop-node l = l .at

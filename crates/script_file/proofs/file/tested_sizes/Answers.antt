@@ -3,7 +3,7 @@ use mathlib.Core.Path.{sym, ap, _∙_}
 use Prim.Native.Nat.{_<_}
 use Rattle.std.proofs.shelf.Results.{made-from-err}
 use Rattle.script_file.specs.Reading.{mapped, sizes-of}
-use Rattle.script_file.proofs.Answer.{answer-fault, answer-room, answer-sizes, answer-there, lawful}
+use Rattle.script_file.proofs.Answer.{answer-fault, answer-room, answer-sizes, answer-readable, lawful}
 use Rattle.script_file.proofs.Bytes.{octets}
 use Rattle.script_file.proofs.Then.{handed-on}
 use Rattle.script_file.proofs.file.tested_sizes.Needs as need
@@ -16,7 +16,7 @@ returns-in-Break-sizes c =
     let none = answer-fault (c .args .types) (c .args .nodes) bs bytes (sym (c .in-Break-sizes .ensures tt)) in
     record {
       value = handed-on (c .from-residual .result) _ (c .from-residual .ensures .1) ∙ sym (ap (mapped sizes-of) none);
-      there = made-from-err (c .from-residual .result) _ (c .from-residual .ensures .0);
+      readable = made-from-err (c .from-residual .result) _ (c .from-residual .ensures .0);
       lawful = lawful (c .args .types) (c .args .nodes) bs bytes;
     }
 
@@ -28,7 +28,7 @@ returns-then-types-sizes c =
     let full : (c .args .types < z .locals) ⊎ (c .args .nodes < z .nodes) =
     elim (c .then-types-sizes .came) [ then-types-sizes w ↦ inl (w .if-types-sizes .taken) | else-types-sizes·then-nodes-sizes w ↦ inr (w .if-nodes-sizes .taken) ] in
     let none = answer-room (c .args .types) (c .args .nodes) bs bytes z (sym (c .in-Continue-sizes .ensures tt)) full in
-    record { value = sym (ap (mapped sizes-of) none); there = tt; lawful = lawful (c .args .types) (c .args .nodes) bs bytes }
+    record { value = sym (ap (mapped sizes-of) none); readable = tt; lawful = lawful (c .args .types) (c .args .nodes) bs bytes }
 
 pub returns : need.returns
 returns c =
@@ -38,6 +38,6 @@ returns c =
     let sized = sym (c .in-Continue-sizes .ensures tt) in
     record {
       value = sym (answer-sizes (c .args .types) (c .args .nodes) bs bytes z sized (c .if-types-sizes .left) (c .if-nodes-sizes .left));
-      there = answer-there (c .args .types) (c .args .nodes) bs bytes z sized (c .if-types-sizes .left) (c .if-nodes-sizes .left);
+      readable = answer-readable (c .args .types) (c .args .nodes) bs bytes z sized (c .if-types-sizes .left) (c .if-nodes-sizes .left);
       lawful = lawful (c .args .types) (c .args .nodes) bs bytes;
     }

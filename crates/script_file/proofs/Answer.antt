@@ -1,7 +1,7 @@
 -- What reading answers keeps the laws, and follows from what the code found.
 use mathlib.Core.Bool.{true, _||_}
 use mathlib.Core.Logic.{_⊎_, inl, inr, ⊎-elim}
-use mathlib.Core.Path.{_≡_, refl, sym, ap, ap₂, subst, _∙_}
+use mathlib.Core.Path.{_≡_, sym, ap, ap₂, subst, _∙_}
 use mathlib.Core.List.{List}
 use Prim.Native.Nat.{ℕ, _+_, _≤_, _<_}
 use native.Mathlib.Omega.{arith}
@@ -9,7 +9,6 @@ use lib.Dec.{ltb}
 use lib.ListN.{length}
 use Rattle.std.proofs.shelf.Tests.{cond-false, cond-true, le-ltb, lt-ltb, ltb-false, ltb-true, or-cases, or-from, or-left, or-parts, or-right}
 use Rattle.std.specs.Results.{isOk}
-use Rattle.std.specs.Vec.{refused}
 use Rattle.std.specs.declared.result.Result.{Result}
 use Rattle.std.specs.declared.result.Result.the-variants.{Ok, Err}
 use Rattle.java.specs.declared.types.Primitive.{Primitive}
@@ -24,6 +23,7 @@ use Rattle.script_file.specs.Reading.{Readable, and-then, answer, entries, map
 use Rattle.script_file.proofs.Agree.{script-agrees}
 use Rattle.script_file.proofs.Blame.{blamed}
 use Rattle.script_file.proofs.Bytes.{Octets}
+use Rattle.script_file.proofs.Found.{found}
 use Rattle.script_file.proofs.OfFile.{file-read}
 use Rattle.script_file.proofs.Sections.{script-parts, section-parts}
 use Rattle.script_file.proofs.Short.{cut-short}
@@ -60,8 +60,8 @@ module _ (types nodes : ℕ) (bs : List ℕ) (bytes : Octets bs) where
 
   truncated : Truncated bs (answer types nodes bs)
   truncated s lost w some e =
-      let p = cut-short bs lost bytes s w some e in
-      (p .0, then-err (placed types nodes) (p .1))
+      let p = cut-short bs lost s w some e in
+      (p .0, p .1, p .2, p .3, p .4, then-err (placed types nodes) (p .5))
 
   decided : Decided-by-prefix types nodes bs (answer types nodes bs)
   decided other e = ap (λ (r : Result Script FileFault). and-then r (placed types nodes)) (script-agrees other bs e)
@@ -88,12 +88,8 @@ module _ (types nodes : ℕ) (bs : List ℕ) (bytes : Octets bs) where
             subst (First-fault types nodes bs) (q .1) (no-room s (p .1) (p .2 ∙ ap (λ (g : FileFault). Err g) (sym (q .1))))
       ]
 
-  refusal : (r : Result Script FileFault) → answer types nodes bs ≡ r → refused r (First-fault types nodes bs)
-  refusal (Ok s) h = tt
-  refusal (Err f) h = blames f h
-
   pub lawful : Lawful types nodes bs (answer types nodes bs)
-  lawful = record { exact = exact; truncated = truncated; first-fault = refusal (answer types nodes bs) refl; decided = decided }
+  lawful = record { exact = exact; truncated = truncated; refused = λ f. (blames f, found bs bytes types nodes f); decided = decided }
 
   pub answer-fault : {f : FileFault} → mapped sizes-of (script-in bs) ≡ Err f → answer types nodes bs ≡ Err f
   answer-fault h = then-err (placed types nodes) (mapped-fault sizes-of (script-in bs) h)

@@ -22,7 +22,7 @@ use Rattle.script_file.specs.declared.fault.FileFault.{FileFault}
 use Rattle.script_file.specs.declared.fault.FileFault.the-variants.{Cut, Count, TypeCode, Trailing}
 use Rattle.script.specs.declared.node.Node.{Node}
 use Rattle.script.specs.Scripts.{Script}
-use Rattle.script_file.specs.Format.{Node-fits, Within, file, node-bytes, node-of, number-of, part, type-bytes}
+use Rattle.script_file.specs.Format.{Node-fits, Within, bytes-of, file, node-bytes, node-of, number-of, part, type-bytes}
 use Rattle.script_file.specs.Laws.{First-fault, No-file-begins, Valid-before}
 use Rattle.script_file.specs.Reading.{and-then, chunk-at, count-at, end-at, entries, labels-in, limited, locals-in, node-at, nodes-in, script-in, section, type-at}
 use Rattle.script_file.proofs.Agree.{count-agrees, type-agrees}
@@ -181,17 +181,24 @@ module _ (types nodes : ℕ) (bs : List ℕ) where
   blamed-type o right reached dead (inr p) = subst (First-fault types nodes bs) (sym (p .0)) (right, p .1, dead)
 
   module _ (bytes : Octets bs) where
+    -- the count of the locals and so many of their types are there as they are written
+    pub types-there : (l i : ℕ) {right : List Primitive} → count-at bs 0 0 64 ≡ Ok l → entries (type-at bs) 1 2 i ≡ Ok right
+        → (bytes-of 2 l ++ joined type-bytes right ≡ take (2 + i) bs) × (2 + i ≤ length bs)
+    types-there l i counted e =
+        let c = count-parts bs bytes 0 0 64 counted in
+        let stand = entries-stand bs type-at type-bytes 1 (λ _. Unit {0}) (type-stands bs bytes) 2 i (c .2) e in
+        let once : 2 + i * 1 ≡ 2 + i = omega arith in
+        (longer bs 2 (i * 1) (c .3) (stand .back) ∙ ap (λ (o : ℕ). take o bs) once, omega (arith, stand .whole))
+
     wrong-type : (l : ℕ) {f : FileFault} → count-at bs 0 0 64 ≡ Ok l → First-wrong (type-at bs) 1 2 l f → First-fault types nodes bs f
     wrong-type l counted w =
         let i = w .index in
-        let c = count-parts bs bytes 0 0 64 counted in
-        let stand = entries-stand bs type-at type-bytes 1 (λ _. Unit {0}) (type-stands bs bytes) 2 i (c .2) (w .before) in
+        let there = types-there l i counted (w .before) in
         let once : 2 + i * 1 ≡ 2 + i = omega arith in
-        let reached : 2 + i ≤ length bs = omega (arith, stand .whole) in
-        let front = longer bs 2 (i * 1) (c .3) (stand .back) ∙ ap (λ (o : ℕ). take o bs) once in
+        let few = count-parts bs bytes 0 0 64 counted .1 in
         let long = entries-length (type-at bs) 1 2 i (w .before) in
         let wrong = sym (ap (type-at bs) once) ∙ w .wrong in
-        blamed-type (2 + i) (valid-at-type bs l i (w .right) (c .1) (w .inside) long reached front) reached (dead-type bs l counted i (w .inside) wrong) (type-wrong bs (2 + i) wrong)
+        blamed-type (2 + i) (valid-at-type bs l i (w .right) few (w .inside) long (there .1) (there .0)) (there .1) (dead-type bs l counted i (w .inside) wrong) (type-wrong bs (2 + i) wrong)
 
     wrong-locals : {f : FileFault} → locals-in bs ≡ Err f → First-fault types nodes bs f
     wrong-locals h =
@@ -205,31 +212,27 @@ module _ (types nodes : ℕ) (bs : List ℕ) where
       counted : count-at bs 0 0 64 ≡ Ok (length xs)
       counted = section-parts bs type-at 1 0 0 64 read .0
 
-      few : length xs ≤ 64
+      pub few : length xs ≤ 64
       few = count-parts bs bytes 0 0 64 counted .1
 
       -- the bytes of the locals, and that they are there
-      locals-front : (types-front bs xs few ≡ take (2 + length xs) bs) × (2 + length xs ≤ length bs)
-      locals-front =
-          let c = count-parts bs bytes 0 0 64 counted in
-          let stand = entries-stand bs type-at type-bytes 1 (λ _. Unit {0}) (type-stands bs bytes) 2 (length xs) (c .2) (section-parts bs type-at 1 0 0 64 read .1) in
-          let once : 2 + length xs * 1 ≡ 2 + length xs = omega arith in
-          (longer bs 2 (length xs * 1) (c .3) (stand .back) ∙ ap (λ (o : ℕ). take o bs) once, omega (arith, stand .whole))
+      locals-there : (types-front bs xs few ≡ take (2 + length xs) bs) × (2 + length xs ≤ length bs)
+      locals-there = types-there (length xs) (length xs) counted (section-parts bs type-at 1 0 0 64 read .1)
 
       wrong-labels : {f : FileFault} → labels-in bs (length xs) ≡ Err f → First-fault types nodes bs f
       wrong-labels h =
-          let front = locals-front in
+          let front = locals-there in
           blamed-count (2 + length xs) (valid-at-labels bs xs few (front .1) (front .0)) (front .1) (dead-labels bs (length xs) counted h) (count-wrong bs (2 + length xs) 0 32 h)
 
       module _ (labels : ℕ) (labelled : labels-in bs (length xs) ≡ Ok labels) where
-        few-labels : labels ≤ 32
+        pub few-labels : labels ≤ 32
         few-labels = count-parts bs bytes (2 + length xs) 0 32 labelled .1
 
-        labels-there : (labels-front bs xs few labels ≡ take (4 + length xs) bs) × (4 + length xs ≤ length bs)
+        pub labels-there : (labels-front bs xs few labels ≡ take (4 + length xs) bs) × (4 + length xs ≤ length bs)
         labels-there =
             let c = count-parts bs bytes (2 + length xs) 0 32 labelled in
             let two : 2 + length xs + 2 ≡ 4 + length xs = omega arith in
-            (longer bs (2 + length xs) 2 (locals-front .0) (c .3) ∙ ap (λ (o : ℕ). take o bs) two, omega (arith, c .2))
+            (longer bs (2 + length xs) 2 (locals-there .0) (c .3) ∙ ap (λ (o : ℕ). take o bs) two, omega (arith, c .2))
 
         wrong-count : {f : FileFault} → count-at bs (4 + length xs) 1 1024 ≡ Err f → First-fault types nodes bs f
         wrong-count h =
@@ -237,7 +240,7 @@ module _ (types nodes : ℕ) (bs : List ℕ) where
             blamed-count (4 + length xs) (valid-at-count bs xs few labels few-labels (front .1) (front .0)) (front .1) (dead-nodes bs (length xs) counted h) (count-wrong bs (4 + length xs) 1 1024 h)
 
         -- so many nodes that are right
-        nodes-there : (n i : ℕ) {ys : List Node} → count-at bs (4 + length xs) 1 1024 ≡ Ok n → entries (node-at bs) 14 (4 + length xs + 2) i ≡ Ok ys
+        pub nodes-there : (n i : ℕ) {ys : List Node} → count-at bs (4 + length xs) 1 1024 ≡ Ok n → entries (node-at bs) 14 (4 + length xs + 2) i ≡ Ok ys
             → (count-front bs xs few labels n ++ joined node-bytes ys ≡ take (6 + length xs + i * 14) bs) × (6 + length xs + i * 14 ≤ length bs) × All Node-fits ys
         nodes-there n i c e =
             let k = count-parts bs bytes (4 + length xs) 1 1024 c in

@@ -3,6 +3,7 @@ pub mod Answer
 pub mod Blame
 pub mod Bytes
 pub mod Entries
+pub mod Found
 pub mod OfFile
 pub mod Short
 pub mod Then

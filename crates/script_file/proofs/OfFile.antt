@@ -118,6 +118,20 @@ length-joined written size sized (x ∷ xs) =
     let e : suc (length xs) * size ≡ length xs * size + size = suc-mul (length xs) size in
     omega (arith, length-append (written x) (joined written xs), sized x, length-joined written size sized xs)
 
+pub length-file : (s : Script) → length (file s) ≡ 6 + length (s .locals) + length (s .nodes) * 14
+length-file s =
+    let l = length (s .locals) in
+    let n = length (s .nodes) in
+    let ls = bytes-of 2 l in
+    let ts = joined type-bytes (s .locals) in
+    let bs = bytes-of 2 (s .labels) in
+    let ns = bytes-of 2 n in
+    let xs = joined node-bytes (s .nodes) in
+    let lts : length ts ≡ l = length-joined type-bytes 1 (λ _. refl) (s .locals) ∙ omega arith in
+    let lxs : length xs ≡ n * 14 = length-joined node-bytes 14 length-node-bytes (s .nodes) in
+    length-append ls (ts ++ (bs ++ (ns ++ xs)))
+    ∙ omega (arith, length-append ts (bs ++ (ns ++ xs)), length-append bs (ns ++ xs), length-append ns xs, length-bytes-of 2 l, length-bytes-of 2 (s .labels), length-bytes-of 2 n)
+
 pub file-parts : (s : Script) → Within s → Parts (file s) s
 file-parts s w =
     let l = length (s .locals) in
@@ -128,14 +142,12 @@ file-parts s w =
     let ns = bytes-of 2 n in
     let xs = joined node-bytes (s .nodes) in
     let lts : length ts ≡ l = length-joined type-bytes 1 (λ _. refl) (s .locals) ∙ omega arith in
-    let lxs : length xs ≡ n * 14 = length-joined node-bytes 14 length-node-bytes (s .nodes) in
     let two : file s ≡ (ls ++ ts) ++ (bs ++ (ns ++ xs)) = sym (append-assoc ls ts (bs ++ (ns ++ xs))) in
     let three : file s ≡ ((ls ++ ts) ++ bs) ++ (ns ++ (xs ++ [])) =
     two ∙ sym (append-assoc (ls ++ ts) bs (ns ++ xs)) ∙ ap (λ (t : List ℕ). ((ls ++ ts) ++ bs) ++ (ns ++ t)) (sym (append-nil xs)) in
     let o2 : length (ls ++ ts) ≡ 2 + l = omega (arith, length-append ls ts, length-bytes-of 2 l) in
     let o3 : length ((ls ++ ts) ++ bs) ≡ 4 + l = omega (arith, length-append (ls ++ ts) bs, length-bytes-of 2 (s .labels)) in
-    let o4 : length (file s) ≡ 6 + l + n * 14 =
-    ap length three ∙ omega (arith, length-append ((ls ++ ts) ++ bs) (ns ++ (xs ++ [])), length-append ns (xs ++ []), length-append xs [], length-bytes-of 2 n) in
+    let o4 = length-file s in
     record {
       locals = section-between type-at type-bytes 1 (λ _. Unit {0}) (λ _. refl) (λ before behind o t _ e. type-between before behind o t e)
           [] (bs ++ (ns ++ xs)) 0 0 64 (s .locals) (any (s .locals)) refl (omega arith) (w .locals) (omega (arith, w .locals));

@@ -4,7 +4,6 @@ use mathlib.Core.Path.{_≡_}
 use mathlib.Core.List.{List, _++_}
 use Prim.Native.Nat.{ℕ, _+_, _*_, _≤_, _<_}
 use lib.ListN.{length, take}
-use Rattle.std.specs.Vec.{refused}
 use Rattle.std.specs.declared.result.Result.{Result}
 use Rattle.std.specs.declared.result.Result.the-variants.{Ok, Err}
 use Rattle.script_file.specs.declared.fault.FileFault.{FileFault}
@@ -27,11 +26,6 @@ Exact types nodes bs r =
     → (r ≡ Ok s → FileOf types nodes bs s × ((other : Script) → Within other → bs ≡ file other → other ≡ s))
     × (FileOf types nodes bs s → r ≡ Ok s)
 
--- a file that lost bytes at its end is refused by 1
-abbrev pub Truncated : List ℕ → Result Script FileFault → Type 0
-Truncated bs r =
-    (s : Script) (lost : List ℕ) → Within s → 0 < length lost → bs ++ lost ≡ file s → (o : ℕ) × (r ≡ Err (Cut o))
-
 -- the parts of a script's file: where each begins, and how many bytes it has
 pub data Has-part (s : Script) : ℕ → ℕ → Type 0 where
   locals-count : Has-part s 0 2
@@ -39,6 +33,15 @@ pub data Has-part (s : Script) : ℕ → ℕ → Type 0 where
   labels-count : Has-part s (2 + length (s .locals)) 2
   nodes-count : Has-part s (4 + length (s .locals)) 2
   node-at-place : (i : ℕ) → i < length (s .nodes) → Has-part s (6 + length (s .locals) + i * 14) 14
+
+-- a file that lost bytes at its end is refused by 1, at the part within which it now ends
+abbrev pub Truncated : List ℕ → Result Script FileFault → Type 0
+Truncated bs r =
+    (s : Script) (lost : List ℕ)
+    → Within s
+    → 0 < length lost
+    → bs ++ lost ≡ file s
+    → (o : ℕ) × (size : ℕ) × Has-part s o size × (o ≤ length bs) × (length bs < o + size) × (r ≡ Err (Cut o))
 
 -- nothing is wrong before an offset: the bytes there are those of some script's file, in which a part of this size begins at the offset
 pub record Valid-before (bs : List ℕ) (o size : ℕ) : Type 0 where
@@ -60,6 +63,11 @@ First-fault types nodes bs (Trailing o) = (s : Script) × Within s × (take o bs
 First-fault types nodes bs Room =
     (s : Script) × Within s × (bs ≡ file s) × ((types < length (s .locals)) ⊎ (nodes < length (s .nodes)))
 
+-- bytes are refused exactly by the refusal that says what is so
+abbrev pub Exactly-refused : ℕ → ℕ → List ℕ → Result Script FileFault → Type 0
+Exactly-refused types nodes bs r =
+    (f : FileFault) → (r ≡ Err f → First-fault types nodes bs f) × (First-fault types nodes bs f → r ≡ Err f)
+
 -- how many bytes decide: one more than the longest file has
 abbrev pub deciding : ℕ
 deciding = 6 + 64 + 1024 * 14 + 1
@@ -73,5 +81,5 @@ Decided-by-prefix types nodes bs r =
 pub record Lawful (types nodes : ℕ) (bs : List ℕ) (r : Result Script FileFault) : Type 0 where
   pub exact : Exact types nodes bs r
   pub truncated : Truncated bs r
-  pub first-fault : refused r (First-fault types nodes bs)
+  pub refused : Exactly-refused types nodes bs r
   pub decided : Decided-by-prefix types nodes bs r

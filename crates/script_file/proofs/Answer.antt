@@ -19,7 +19,8 @@ use Rattle.script.specs.declared.node.Node.{Node}
 use Rattle.script.specs.Scripts.{Script}
 use Rattle.script_file.specs.Format.{Within, file}
 use Rattle.script_file.specs.Laws.{First-fault, Truncated, Decided-by-prefix, Exact, FileOf, Lawful}
-use Rattle.script_file.specs.Reading.{Readable, and-then, answer, entries, mapped, node-at, placed, script-in, sizes-of, type-at}
+use Rattle.script_file.specs.Reading.{and-then, answer, entries, mapped, node-at, placed, script-in, sizes-of, type-at}
+use Rattle.script_file.specs.Steps.{Readable}
 use Rattle.script_file.proofs.Agree.{script-agrees}
 use Rattle.script_file.proofs.Blame.{blamed}
 use Rattle.script_file.proofs.Bytes.{Octets}

@@ -7,7 +7,8 @@ use native.Mathlib.Omega.{arith}
 use Rattle.std.specs.declared.result.Result.{Result}
 use Rattle.std.specs.declared.result.Result.the-variants.{Ok, Err}
 use Rattle.script_file.specs.declared.fault.FileFault.{FileFault}
-use Rattle.script_file.specs.Reading.{and-then, entries, tested}
+use Rattle.script_file.specs.Reading.{and-then, entries}
+use Rattle.script_file.specs.Steps.{tested}
 
 -- the offset of one entry more
 pub next-offset : (o i size : ℕ) → o + i * size + size ≡ o + (i + 1) * size

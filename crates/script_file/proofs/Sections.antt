@@ -10,7 +10,8 @@ use Rattle.script_file.specs.declared.fault.FileFault.{FileFault}
 use Rattle.script_file.specs.declared.file.Sizes.{Sizes}
 use Rattle.script.specs.declared.node.Node.{Node}
 use Rattle.script.specs.Scripts.{Script}
-use Rattle.script_file.specs.Reading.{and-then, mapped, locals-in, labels-in, nodes-in, count-at, end-at, entries, section, script-in, sizes-of, tested}
+use Rattle.script_file.specs.Reading.{and-then, mapped, locals-in, labels-in, nodes-in, count-at, end-at, entries, section, script-in, sizes-of}
+use Rattle.script_file.specs.Steps.{tested}
 use Rattle.script_file.proofs.Then.{then-ok, then-err, then-parts, mapped-fault, mapped-parts}
 
 -- as many entries as there should be

@@ -1,12 +1,11 @@
 -- What reading answers, from front to back: a script, or the first fault.
 use mathlib.Core.Path.{_≡_}
-use mathlib.Core.Bool.{true, cond, _||_}
+use mathlib.Core.Bool.{cond, _||_}
 use mathlib.Core.List.{List, [], _∷_}
-use Prim.Native.Nat.{ℕ, zero, suc, _+_, _*_, _≤_}
+use Prim.Native.Nat.{ℕ, zero, suc, _+_, _*_}
 use lib.Dec.{ltb}
 use lib.ListN.{length, getD, take, drop}
 use Rattle.std.specs.Options.{okOr}
-use Rattle.std.specs.Results.{isOk}
 use Rattle.std.specs.declared.result.Result.{Result}
 use Rattle.std.specs.declared.result.Result.the-variants.{Ok, Err}
 use Rattle.java.specs.declared.types.Primitive.{Primitive}
@@ -82,13 +81,9 @@ placed types nodes s =
 abbrev pub answer : ℕ → ℕ → List ℕ → Result Script FileFault
 answer types nodes bs = and-then (script-in bs) (placed types nodes)
 
--- a part of what was read
+-- something of what was read
 abbrev pub mapped : {A B : Type 0} → (A → B) → Result A FileFault → Result B FileFault
 mapped f r = and-then r (λ x. Ok (f x))
-
--- only whether there is a fault
-abbrev pub tested : {X : Type 0} → Result X FileFault → Result (Unit {0}) FileFault
-tested {X} = mapped (λ (x : X). tt)
 
 abbrev pub sizes-of : Script → Sizes
 sizes-of s = record { locals = length (s .locals); labels = s .labels; nodes = length (s .nodes) }
@@ -96,18 +91,6 @@ sizes-of s = record { locals = length (s .locals); labels = s .labels; nodes = l
 -- the script at the front of two tables
 abbrev pub front : Sizes → List Primitive → List Node → Script
 front z types nodes = record { locals = take (z .locals) types; labels = z .labels; nodes = take (z .nodes) nodes }
-
--- a file was tested: its entries can be read, the tables have room for them, and they make the script that is answered
-pub record Readable (types nodes : ℕ) (bs : List ℕ) (z : Sizes) : Type 0 where
-  pub types-fit : z .locals ≤ types
-  pub nodes-fit : z .nodes ≤ nodes
-  pub few-types : z .locals ≤ 64
-  pub few-nodes : z .nodes ≤ 1024
-  pub types-right : isOk (entries (type-at bs) 1 2 (z .locals)) ≡ true
-  pub nodes-right : isOk (entries (node-at bs) 14 (6 + z .locals) (z .nodes)) ≡ true
-  pub whole : (written : List Primitive) (put : List Node)
-      → entries (type-at bs) 1 2 (z .locals) ≡ Ok written → entries (node-at bs) 14 (6 + z .locals) (z .nodes) ≡ Ok put
-      → answer types nodes bs ≡ Ok (record { locals = written; labels = z .labels; nodes = put })
 
 -- what reading leaves in tables that held types and nodes, and now hold types′ and nodes′: the script at their fronts, and the rest as it was; or all as it was
 abbrev pub Leaves : List Primitive → List Primitive → List Node → List Node → Result Script FileFault → Result Sizes FileFault → Type 0

@@ -3,7 +3,7 @@ use Prim.Native.Nat.{_+_, _*_}
 use native.Mathlib.Omega.{arith}
 use Rattle.std.proofs.shelf.Results.{err-from-errBy}
 use Rattle.std.specs.declared.result.Result.the-variants.{Err}
-use Rattle.script_file.specs.Reading.{tested}
+use Rattle.script_file.specs.Steps.{tested}
 use Rattle.script_file.proofs.Entries.{inside, rest-all, rest-wrong, rest-none, tested-more}
 use Rattle.script_file.proofs.parts.test_entries.Needs as need
 

@@ -1,7 +1,8 @@
 -- What is left to test decides.
 use Prim.Native.Nat.{_+_, _-_, _*_}
 use mathlib.Core.Path.{_≡_}
-use Rattle.script_file.specs.Reading.{entries, tested}
+use Rattle.script_file.specs.Reading.{entries}
+use Rattle.script_file.specs.Steps.{tested}
 use Rattle.script_file.proofs.parts.test_entries.Given as given
 
 abbrev pub Inv-loop-i : given.InvT-loop-i

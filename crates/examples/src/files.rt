@@ -30,14 +30,14 @@ pub struct Tables {
     pub nodes: [Node; MOST_NODES],
 }
 
-pub fn spare_tables() -> Tables {
+pub(crate) fn spare_tables() -> Tables {
     Tables {
         types: [Primitive::Char; MOST_LOCALS],
         nodes: [SPARE; MOST_NODES],
     }
 }
 
-pub fn node(kind: u8, detail: u8, up: u16, end: u16, number: i64) -> Node {
+pub(crate) fn node(kind: u8, detail: u8, up: u16, end: u16, number: i64) -> Node {
     Node {
         kind,
         detail,
@@ -48,7 +48,7 @@ pub fn node(kind: u8, detail: u8, up: u16, end: u16, number: i64) -> Node {
 }
 
 // ONE_FIELD with another byte at an offset.
-pub fn damaged(at: usize, byte: u8) -> [u8; 77] {
+pub(crate) fn damaged(at: usize, byte: u8) -> [u8; 77] {
     let mut bytes = *ONE_FIELD;
     if at < bytes.len() {
         bytes[at] = byte;
@@ -57,7 +57,12 @@ pub fn damaged(at: usize, byte: u8) -> [u8; 77] {
 }
 
 // A file with these counts of locals, labels and nodes, and with so many type codes and nodes.
-pub fn filled(heap: Global, locals: u16, labels: u16, nodes: u16) -> Result<Vec<u8>, AllocError> {
+pub(crate) fn filled(
+    heap: Global,
+    locals: u16,
+    labels: u16,
+    nodes: u16,
+) -> Result<Vec<u8>, AllocError> {
     let mut bytes = Vec::new(heap);
     bytes.extend_from_slice(&locals.to_le_bytes())?;
     for _ in 0..locals {

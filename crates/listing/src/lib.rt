@@ -1,5 +1,6 @@
 // A script as text for people: its listing, or the refusal of its file in words.
 mod lines;
+mod names;
 mod texts;
 
 pub use lines::Line;

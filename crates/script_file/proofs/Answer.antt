@@ -1,13 +1,10 @@
 -- What reading answers keeps the laws, and follows from what the code found.
-use mathlib.Core.Bool.{true, _||_}
 use mathlib.Core.Logic.{_⊎_, inl, inr, ⊎-elim}
 use mathlib.Core.Path.{_≡_, sym, ap, ap₂, subst, _∙_}
 use mathlib.Core.List.{List}
 use Prim.Native.Nat.{ℕ, _+_, _≤_, _<_}
 use native.Mathlib.Omega.{arith}
-use lib.Dec.{ltb}
 use lib.ListN.{length}
-use Rattle.std.proofs.shelf.Tests.{cond-false, cond-true, le-ltb, lt-ltb, ltb-false, ltb-true, or-cases, or-from, or-left, or-parts, or-right}
 use Rattle.std.specs.Results.{isOk}
 use Rattle.std.specs.declared.result.Result.{Result}
 use Rattle.std.specs.declared.result.Result.the-variants.{Ok, Err}
@@ -26,9 +23,10 @@ use Rattle.script_file.proofs.Blame.{blamed}
 use Rattle.script_file.proofs.Bytes.{Octets}
 use Rattle.script_file.proofs.Found.{found}
 use Rattle.script_file.proofs.OfFile.{file-read}
+use Rattle.script_file.proofs.Placed.{placed-fits, placed-full, placed-refused, placed-there}
 use Rattle.script_file.proofs.Sections.{script-parts, section-parts}
 use Rattle.script_file.proofs.Short.{cut-short}
-use Rattle.script_file.proofs.Then.{mapped-fault, mapped-parts, passed, stopped, then-err, then-fault, then-ok, then-parts}
+use Rattle.script_file.proofs.Then.{mapped-fault, mapped-parts, then-err, then-fault, then-ok, then-parts}
 use Rattle.script_file.proofs.ToFile.{count-parts, read-file}
 
 module _ (types nodes : ℕ) (bs : List ℕ) (bytes : Octets bs) where
@@ -38,26 +36,21 @@ module _ (types nodes : ℕ) (bs : List ℕ) (bytes : Octets bs) where
       read-to : answer types nodes bs ≡ Ok s → FileOf types nodes bs s × ((other : Script) → Within other → bs ≡ file other → other ≡ s)
       read-to h =
           let p = then-parts (script-in bs) (placed types nodes) h in
-          let l = length (p .0 .locals) in
-          let n = length (p .0 .nodes) in
-          let q = passed (ltb types l || ltb nodes n) Room (p .0) (p .2) in
-          let room = or-parts (ltb types l) (ltb nodes n) (q .0) in
-          let whole = p .1 ∙ ap (λ (t : Script). Ok t) (q .1) in
+          let q = placed-there types nodes (p .0) (p .2) in
+          let whole = p .1 ∙ ap (λ (t : Script). Ok t) (q .2) in
           let rf = read-file bs bytes s (script-parts bs s whole) in (
             record {
               within = rf .1;
               bytes = rf .0;
-              locals-fit = subst (λ (t : Script). length (t .locals) ≤ types) (q .1) (ltb-false types l (room .0));
-              nodes-fit = subst (λ (t : Script). length (t .nodes) ≤ nodes) (q .1) (ltb-false nodes n (room .1));
+              locals-fit = subst (λ (t : Script). length (t .locals) ≤ types) (q .2) (q .0);
+              nodes-fit = subst (λ (t : Script). length (t .nodes) ≤ nodes) (q .2) (q .1);
             },
             λ other w e. let k = sym (ap script-in e ∙ file-read other w) ∙ whole in cc,
           )
 
       file-of : FileOf types nodes bs s → answer types nodes bs ≡ Ok s
       file-of f =
-          then-ok (placed types nodes) (ap script-in (f .bytes) ∙ file-read s (f .within))
-          ∙ cond-false (ltb types (length (s .locals)) || ltb nodes (length (s .nodes))) (Err Room) (Ok s)
-          (or-from _ _ (le-ltb types (length (s .locals)) (f .locals-fit)) (le-ltb nodes (length (s .nodes)) (f .nodes-fit)))
+          then-ok (placed types nodes) (ap script-in (f .bytes) ∙ file-read s (f .within)) ∙ placed-fits types nodes s (f .locals-fit) (f .nodes-fit)
 
   truncated : Truncated bs (answer types nodes bs)
   truncated s lost w some e =
@@ -67,26 +60,14 @@ module _ (types nodes : ℕ) (bs : List ℕ) (bytes : Octets bs) where
   decided : Decided-by-prefix types nodes bs (answer types nodes bs)
   decided other e = ap (λ (r : Result Script FileFault). and-then r (placed types nodes)) (script-agrees other bs e)
 
-  -- a right file finds too little room
-  no-room : (s : Script) → script-in bs ≡ Ok s → placed types nodes s ≡ Err Room → First-fault types nodes bs Room
-  no-room s e h =
-      let rf = read-file bs bytes s (script-parts bs s e) in
-      let p = stopped (ltb types (length (s .locals)) || ltb nodes (length (s .nodes))) Room s h in (
-        s,
-        rf .1,
-        rf .0,
-        ⊎-elim (λ (a : ltb types (length (s .locals)) ≡ true). inl (ltb-true types (length (s .locals)) a))
-            (λ (b : ltb nodes (length (s .nodes)) ≡ true). inr (ltb-true nodes (length (s .nodes)) b)) (or-cases _ _ (p .0)),
-      )
-
   blames : (f : FileFault) → answer types nodes bs ≡ Err f → First-fault types nodes bs f
   blames f h =
       elim (then-fault (script-in bs) (placed types nodes) h) [
         | inl e ↦ blamed types nodes bs bytes e
         | inr p ↦
-            let s = p .0 in
-            let q = stopped (ltb types (length (s .locals)) || ltb nodes (length (s .nodes))) Room s (p .2) in
-            subst (First-fault types nodes bs) (q .1) (no-room s (p .1) (p .2 ∙ ap (λ (g : FileFault). Err g) (sym (q .1))))
+            let q = placed-refused types nodes (p .0) (p .2) in
+            let rf = read-file bs bytes (p .0) (script-parts bs (p .0) (p .1)) in
+            subst (First-fault types nodes bs) (q .1) (p .0, rf .1, rf .0, q .0)
       ]
 
   pub lawful : Lawful types nodes bs (answer types nodes bs)
@@ -102,10 +83,9 @@ module _ (types nodes : ℕ) (bs : List ℕ) (bytes : Octets bs) where
         let s = p .0 in
         let l : length (s .locals) ≡ z .locals = ap (λ (y : Sizes). y .locals) (p .2) in
         let n : length (s .nodes) ≡ z .nodes = ap (λ (y : Sizes). y .nodes) (p .2) in
-        let full : (ltb types (length (s .locals)) || ltb nodes (length (s .nodes))) ≡ true =
-        ⊎-elim (λ (a : types < z .locals). or-left (ltb types (length (s .locals))) _ (lt-ltb types (length (s .locals)) (omega arith)))
-        (λ (b : nodes < z .nodes). or-right (ltb types (length (s .locals))) _ (lt-ltb nodes (length (s .nodes)) (omega arith))) h in
-        then-ok (placed types nodes) (p .1) ∙ cond-true (ltb types (length (s .locals)) || ltb nodes (length (s .nodes))) (Err Room) (Ok s) full
+        let full : (types < length (s .locals)) ⊎ (nodes < length (s .nodes)) =
+        ⊎-elim (λ (a : types < z .locals). inl (omega arith)) (λ (b : nodes < z .nodes). inr (omega arith)) h in
+        then-ok (placed types nodes) (p .1) ∙ placed-full types nodes s full
 
     -- what was tested is there to be written
     record Tested : Type 0 where
@@ -146,9 +126,7 @@ module _ (types nodes : ℕ) (bs : List ℕ) (bytes : Octets bs) where
           let s = t .script in
           let l : length (s .locals) ≡ z .locals = ap (λ (y : Sizes). y .locals) (t .sizes) in
           let n : length (s .nodes) ≡ z .nodes = ap (λ (y : Sizes). y .nodes) (t .sizes) in
-          then-ok (placed types nodes) (t .read)
-          ∙ cond-false (ltb types (length (s .locals)) || ltb nodes (length (s .nodes))) (Err Room) (Ok s)
-          (or-from _ _ (le-ltb types (length (s .locals)) (omega arith)) (le-ltb nodes (length (s .nodes)) (omega arith)))
+          then-ok (placed types nodes) (t .read) ∙ placed-fits types nodes s (omega arith) (omega arith)
 
       pub answer-sizes : mapped sizes-of (answer types nodes bs) ≡ Ok z
       answer-sizes = ap (mapped sizes-of) whole ∙ ap (λ (y : Sizes). Ok y) (tested .sizes)

@@ -1,6 +1,5 @@
 -- Where the first faulty part is as a refusal says, reading finds it and answers that refusal.
-use mathlib.Core.Bool.{true, _||_}
-use mathlib.Core.Logic.{_⊎_, inl, inr, ⊎-elim}
+use mathlib.Core.Logic.{inl, inr}
 use mathlib.Core.Path.{_≡_, refl, sym, ap, subst, _∙_}
 use mathlib.Core.List.{List, [], _∷_, _++_}
 use Prim.Native.Nat.{ℕ, zero, suc, _+_, _*_, _≤_, _<_}
@@ -9,7 +8,7 @@ use native.Mathlib.Omega.{arith}
 use lib.Dec.{ltb}
 use lib.ListN.{length, take, length-take}
 use Rattle.std.proofs.shelf.Lists.{take-all}
-use Rattle.std.proofs.shelf.Tests.{cases-lt, cond-true, lt-ltb, or-left, or-right}
+use Rattle.std.proofs.shelf.Tests.{cases-lt, cond-true, lt-ltb}
 use Rattle.std.specs.Joined.{joined}
 use Rattle.std.specs.declared.result.Result.{Result}
 use Rattle.std.specs.declared.result.Result.the-variants.{Ok, Err}
@@ -25,6 +24,7 @@ use Rattle.script_file.proofs.Agree.{count-agrees, entries-agree, node-agrees,
 use Rattle.script_file.proofs.Blame.{count-wrong, few, few-labels, labels-there, nodes-there, type-wrong, types-there}
 use Rattle.script_file.proofs.Bytes.{Octets}
 use Rattle.script_file.proofs.OfFile.{file-parts, file-read, length-file}
+use Rattle.script_file.proofs.Placed.{placed-full}
 use Rattle.script_file.proofs.Sections.{entries-length, script-stages, section-miscounted, section-of, section-parts, then-end, then-labels, then-nodes}
 use Rattle.script_file.proofs.ToFile.{count-limit, count-parts}
 use Rattle.script_file.proofs.Witness.{valid-at-count, valid-at-labels, valid-at-node, valid-at-type}
@@ -268,14 +268,6 @@ module _ (bs : List ℕ) where
     found-type s o size nodes-count one w same whole none = absurd (omega arith)
     found-type s o size (node-at-place i inside) one w same whole none = absurd (omega arith)
 
-    no-room : (types nodes : ℕ) (s : Script) → Within s → bs ≡ file s → (types < length (s .locals)) ⊎ (nodes < length (s .nodes)) → answer types nodes bs ≡ Err Room
-    no-room types nodes s w e short =
-        let l = length (s .locals) in
-        let n = length (s .nodes) in
-        let full : (ltb types l || ltb nodes n) ≡ true =
-        ⊎-elim (λ (a : types < l). or-left (ltb types l) (ltb nodes n) (lt-ltb types l a)) (λ (b : nodes < n). or-right (ltb types l) (ltb nodes n) (lt-ltb nodes n b)) short in
-        then-ok (placed types nodes) (ap script-in e ∙ file-read s w) ∙ cond-true (ltb types l || ltb nodes n) (Err Room) (Ok s) full
-
     pub found : (types nodes : ℕ) (f : FileFault) → First-fault types nodes bs f → answer types nodes bs ≡ Err f
     found types nodes (Cut o) p =
         let v = p .1 in then-err (placed types nodes) (found-cut (v .script) o (p .0) (v .begins) (v .within) (v .same) (p .3))
@@ -284,4 +276,5 @@ module _ (bs : List ℕ) where
     found types nodes (TypeCode o) p =
         let v = p .0 in then-err (placed types nodes) (found-type (v .script) o 1 (v .begins) refl (v .within) (v .same) (p .1) (p .2))
     found types nodes (Trailing o) p = then-err (placed types nodes) (found-trailing (p .0) o (p .1) (p .2) (p .3))
-    found types nodes Room p = no-room types nodes (p .0) (p .1) (p .2) (p .3)
+    found types nodes Room p =
+        then-ok (placed types nodes) (ap script-in (p .2) ∙ file-read (p .0) (p .1)) ∙ placed-full types nodes (p .0) (p .3)

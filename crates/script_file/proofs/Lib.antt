@@ -9,4 +9,5 @@ pub mod Short
 pub mod Then
 pub mod ToFile
 pub mod Witness
+pub mod Placed
 pub mod Sections

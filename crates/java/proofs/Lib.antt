@@ -1,0 +1,11 @@
+mod Comparing
+mod Division
+mod DivisionLaw
+mod Lawful
+mod Ranges
+mod Residues
+mod Shifts
+mod Subtypes
+mod Rules
+mod Typed
+mod Wrapping

@@ -1,6 +1,6 @@
--- The primitive types: the code of each in stored data, and its keyword.
-use mathlib.Core.Bool.{cond}
-use mathlib.Core.List.{List}
+-- The primitive types: the code of each in stored data, its keyword, which of them are numeric, and the widest of some.
+use mathlib.Core.Bool.{Bool, true, false, cond}
+use mathlib.Core.List.{List, [], _∷_}
 use Prim.Native.Nat.{ℕ}
 use lib.Chars.{codes}
 use lib.Dec.{eqb}
@@ -8,6 +8,8 @@ use Rattle.std.specs.declared.option.Option.{Option}
 use Rattle.std.specs.declared.option.Option.the-variants.{Some, None}
 use Rattle.java.specs.declared.types.Primitive.{Primitive}
 use Rattle.java.specs.declared.types.Primitive.the-variants.{Boolean, Byte, Short, Char, Int, Long}
+use Rattle.java.specs.declared.types.Numeric.{Numeric}
+use Rattle.java.specs.declared.types.Numeric.the-variants as N
 
 abbrev pub type-code : Primitive → ℕ
 type-code Boolean = 0
@@ -35,3 +37,32 @@ type-of c =
     (cond (eqb c 3) (Some Char)
     (cond (eqb c 4) (Some Int)
     (cond (eqb c 5) (Some Long) None)))))
+
+-- a numeric type among all types
+abbrev pub primitive : Numeric → Primitive
+primitive N.Byte = Byte
+primitive N.Short = Short
+primitive N.Char = Char
+primitive N.Int = Int
+primitive N.Long = Long
+
+-- a type as a numeric one: each is, but boolean
+abbrev pub numeric : Primitive → Option Numeric
+numeric Boolean = None
+numeric Byte = Some N.Byte
+numeric Short = Some N.Short
+numeric Char = Some N.Char
+numeric Int = Some N.Int
+numeric Long = Some N.Long
+
+abbrev pub is-long : Numeric → Bool
+is-long N.Byte = false
+is-long N.Short = false
+is-long N.Char = false
+is-long N.Int = false
+is-long N.Long = true
+
+-- the widest of some numeric types and int: long if one of them is long, otherwise int
+abbrev pub widest : List Numeric → Numeric
+widest [] = N.Int
+widest (t ∷ ts) = cond (is-long t) N.Long (widest ts)

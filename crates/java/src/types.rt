@@ -1,8 +1,13 @@
 // The primitive types, each with its keyword and with the code that stands for it in stored data.
 ghost use mathlib.Core.Path.{_≡_};
+ghost use mathlib.Core.Bool.{true};
+ghost use mathlib.Core.List.{[], _∷_};
 ghost use Rattle.std.specs.declared.option.Option.the-variants.{Some};
 ghost use Rattle.java.specs.declared.types.Primitive.{Primitive};
-ghost use Rattle.java.specs.Types.{type-code, type-name, type-of};
+ghost use Rattle.java.specs.declared.types.Numeric.{Numeric};
+ghost use Rattle.java.specs.Types.{type-code, type-name, type-of, primitive, numeric, widest};
+ghost use Rattle.java.specs.Subtypes.{_≼_, subtype};
+use std::convert::From;
 use std::fmt;
 
 #[derive(Clone, Copy, PartialEq, Eq, Debug)]
@@ -56,6 +61,96 @@ impl Primitive {
             4 => Some(Primitive::Int),
             5 => Some(Primitive::Long),
             _ => None,
+        }
+    }
+
+    // This type as a numeric one; none for boolean.
+    pub fn numeric(self) -> Option<Numeric>
+        ensures value { λ r. ⌜ r ≡ numeric self ⌝ }
+        ensures among { λ r. ⌜ ((n : Numeric) → (r ≡ Some n → self ≡ primitive n) × (self ≡ primitive n → r ≡ Some n)) ⌝ }
+    {
+        match self {
+            Primitive::Boolean => None,
+            Primitive::Byte => Some(Numeric::Byte),
+            Primitive::Short => Some(Numeric::Short),
+            Primitive::Char => Some(Numeric::Char),
+            Primitive::Int => Some(Numeric::Int),
+            Primitive::Long => Some(Numeric::Long),
+        }
+    }
+
+    // Whether each value of this type is one of the other, with no cast.
+    pub fn is_subtype_of(self, other: Primitive) -> bool
+        ensures value { λ r. ⌜ r ≡ subtype self other ⌝ }
+        ensures exact { λ r. ⌜ (r ≡ true → self ≼ other) × (self ≼ other → r ≡ true) ⌝ }
+    {
+        self.has_above(other)
+    }
+
+    // The types at or above each type.
+    fn has_above(self, other: Primitive) -> bool
+        ensures { λ r. ⌜ r ≡ subtype self other ⌝ }
+    {
+        match self {
+            Primitive::Boolean => matches!(other, Primitive::Boolean),
+            Primitive::Byte => matches!(
+                other,
+                Primitive::Byte | Primitive::Short | Primitive::Int | Primitive::Long
+            ),
+            Primitive::Short => matches!(
+                other,
+                Primitive::Short | Primitive::Int | Primitive::Long
+            ),
+            Primitive::Char => matches!(other, Primitive::Char | Primitive::Int | Primitive::Long),
+            Primitive::Int => matches!(other, Primitive::Int | Primitive::Long),
+            Primitive::Long => matches!(other, Primitive::Long),
+        }
+    }
+}
+
+// The types of numbers: every type but boolean.
+#[derive(Clone, Copy)]
+pub enum Numeric {
+    Byte,
+    Short,
+    Char,
+    Int,
+    Long,
+}
+
+impl Numeric {
+    // The type to which an operator promotes operands of these two types.
+    pub fn widest(self, other: Numeric) -> Numeric
+        ensures value { λ r. ⌜ r ≡ widest (self ∷ other ∷ []) ⌝ }
+    {
+        match (self, other) {
+            (Numeric::Long, _) => Numeric::Long,
+            (_, Numeric::Long) => Numeric::Long,
+            _ => Numeric::Int,
+        }
+    }
+
+    // The type to which an operator promotes its only operand.
+    pub fn promoted(self) -> Numeric
+        ensures value { λ r. ⌜ r ≡ widest (self ∷ []) ⌝ }
+    {
+        match self {
+            Numeric::Long => Numeric::Long,
+            _ => Numeric::Int,
+        }
+    }
+}
+
+pub impl From<Numeric> for Primitive as PrimitiveFromNumeric {
+    ghost converts = { λ n r. r ≡ primitive n };
+
+    fn from(n: Numeric) -> Primitive {
+        match n {
+            Numeric::Byte => Primitive::Byte,
+            Numeric::Short => Primitive::Short,
+            Numeric::Char => Primitive::Char,
+            Numeric::Int => Primitive::Int,
+            Numeric::Long => Primitive::Long,
         }
     }
 }

@@ -1,0 +1,62 @@
+// Prints what Java itself gives for the worked cases. It takes a file of lines EXPRESSION = VALUE, leaves the values
+// unread, has javac compile the expressions, and prints each line with the type and the value that Java gives. So a
+// file that equals what is printed has Java's types and Java's values.
+//
+//     java crates/conformance/java/Worked.java crates/conformance/stdout | diff - crates/conformance/stdout
+import java.io.IOException;
+import java.lang.reflect.InvocationTargetException;
+import java.net.URL;
+import java.net.URLClassLoader;
+import java.nio.file.Files;
+import java.nio.file.Path;
+import java.util.List;
+import javax.tools.ToolProvider;
+
+public class Worked {
+    // The overload that javac chooses tells the expression's type.
+    static final String SHOW = """
+            static String show(boolean v) { return "(boolean) " + v; }
+            static String show(byte v) { return "(byte) " + v; }
+            static String show(short v) { return "(short) " + v; }
+            static String show(char v) { return "(char) " + (int) v; }
+            static String show(int v) { return "(int) " + v; }
+            static String show(long v) { return "(long) " + v + "L"; }
+            """;
+
+    static String source(List<String> expressions) {
+        StringBuilder text = new StringBuilder("public class Cases {\n" + SHOW);
+        for (int i = 0; i < expressions.size(); i++) {
+            text.append("public static String case" + i + "() { return show(" + expressions.get(i) + "); }\n");
+        }
+        return text.append("}\n").toString();
+    }
+
+    static Class<?> compiled(String source) throws IOException, ClassNotFoundException {
+        Path folder = Files.createTempDirectory("cases");
+        Path file = Files.writeString(folder.resolve("Cases.java"), source);
+        if (ToolProvider.getSystemJavaCompiler().run(null, null, null, "-Xlint:none", file.toString()) != 0) {
+            throw new IOException("javac refused " + file);
+        }
+        return new URLClassLoader(new URL[] {folder.toUri().toURL()}).loadClass("Cases");
+    }
+
+    static String answer(Class<?> cases, int i) throws ReflectiveOperationException {
+        try {
+            return (String) cases.getDeclaredMethod("case" + i).invoke(null);
+        } catch (InvocationTargetException e) {
+            if (e.getCause() instanceof ArithmeticException) {
+                return "zero divisor";
+            }
+            throw e;
+        }
+    }
+
+    public static void main(String[] words) throws Exception {
+        List<String> expressions =
+                Files.readAllLines(Path.of(words[0])).stream().map(line -> line.substring(0, line.indexOf(" = "))).toList();
+        Class<?> cases = compiled(source(expressions));
+        for (int i = 0; i < expressions.size(); i++) {
+            System.out.println(expressions.get(i) + " = " + answer(cases, i));
+        }
+    }
+}

@@ -1,0 +1,22 @@
+// Worked cases of Java's operators: prints each with what this repository's operators give, for comparison with Java.
+mod cases;
+mod lines;
+
+use crate::cases::print_arithmetic;
+use crate::cases::print_bitwise;
+use crate::cases::print_comparisons;
+use crate::cases::print_equalities;
+use crate::cases::print_logic;
+use crate::cases::print_numbers;
+use crate::cases::print_shifts;
+use std::io;
+
+fn main(rt: LibcRuntime) -> io::Result<()> {
+    print_numbers(&rt)?;
+    print_arithmetic(&rt)?;
+    print_shifts(&rt)?;
+    print_comparisons(&rt)?;
+    print_equalities(&rt)?;
+    print_bitwise(&rt)?;
+    print_logic(&rt)
+}

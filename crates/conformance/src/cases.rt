@@ -33,7 +33,11 @@ const ARITHMETIC: [Binary; 5] = [
     Binary::Arithmetic(Arithmetic::Minus),
 ];
 
-const SHIFTS: [Binary; 3] = [Binary::Shift(Shift::Left), Binary::Shift(Shift::Right), Binary::Shift(Shift::UnsignedRight)];
+const SHIFTS: [Binary; 3] = [
+    Binary::Shift(Shift::Left),
+    Binary::Shift(Shift::Right),
+    Binary::Shift(Shift::UnsignedRight),
+];
 
 const COMPARISONS: [Binary; 4] = [
     Binary::Comparison(Comparison::Less),
@@ -42,9 +46,16 @@ const COMPARISONS: [Binary; 4] = [
     Binary::Comparison(Comparison::GreaterOrEqual),
 ];
 
-const EQUALITIES: [Binary; 2] = [Binary::Equality(Equality::Equal), Binary::Equality(Equality::NotEqual)];
+const EQUALITIES: [Binary; 2] = [
+    Binary::Equality(Equality::Equal),
+    Binary::Equality(Equality::NotEqual),
+];
 
-const BITWISE: [Binary; 3] = [Binary::Bitwise(Bitwise::And), Binary::Bitwise(Bitwise::Xor), Binary::Bitwise(Bitwise::Or)];
+const BITWISE: [Binary; 3] = [
+    Binary::Bitwise(Bitwise::And),
+    Binary::Bitwise(Bitwise::Xor),
+    Binary::Bitwise(Bitwise::Or),
+];
 
 const NUMBERS: [Value; 29] = [
     Value::Byte(-128),
@@ -96,8 +107,14 @@ const DIVIDED: [(Value, Value); 32] = [
     (Value::Int(0), Value::Int(-2147483648)),
     (Value::Long(-7), Value::Long(2)),
     (Value::Long(-9223372036854775808), Value::Long(-1)),
-    (Value::Long(-9223372036854775808), Value::Long(9223372036854775807)),
-    (Value::Long(9223372036854775807), Value::Long(-9223372036854775808)),
+    (
+        Value::Long(-9223372036854775808),
+        Value::Long(9223372036854775807),
+    ),
+    (
+        Value::Long(9223372036854775807),
+        Value::Long(-9223372036854775808),
+    ),
     (Value::Long(5), Value::Int(-3)),
     (Value::Int(-5), Value::Long(3)),
     (Value::Byte(-128), Value::Byte(127)),
@@ -133,7 +150,10 @@ const SHIFTED: [(Value, Value); 30] = [
     (Value::Long(-9223372036854775808), Value::Int(63)),
     (Value::Long(9223372036854775807), Value::Int(1)),
     (Value::Long(-17), Value::Int(-1)),
-    (Value::Long(-9223372036854775808), Value::Long(9223372036854775807)),
+    (
+        Value::Long(-9223372036854775808),
+        Value::Long(9223372036854775807),
+    ),
     (Value::Byte(-1), Value::Long(4)),
     (Value::Byte(-128), Value::Byte(127)),
     (Value::Byte(127), Value::Byte(-128)),
@@ -151,8 +171,14 @@ const COMPARED: [(Value, Value); 16] = [
     (Value::Int(0), Value::Int(-1)),
     (Value::Int(3), Value::Int(3)),
     (Value::Int(-2147483648), Value::Int(2147483647)),
-    (Value::Long(-9223372036854775808), Value::Long(9223372036854775807)),
-    (Value::Long(9223372036854775807), Value::Long(9223372036854775807)),
+    (
+        Value::Long(-9223372036854775808),
+        Value::Long(9223372036854775807),
+    ),
+    (
+        Value::Long(9223372036854775807),
+        Value::Long(9223372036854775807),
+    ),
     (Value::Int(-1), Value::Long(4294967295)),
     (Value::Byte(-128), Value::Byte(127)),
     (Value::Short(-32768), Value::Short(32767)),
@@ -170,8 +196,14 @@ const EQUATED: [(Value, Value); 21] = [
     (Value::Int(-1), Value::Int(1)),
     (Value::Int(-2147483648), Value::Int(-2147483648)),
     (Value::Int(2147483647), Value::Int(-2147483648)),
-    (Value::Long(-9223372036854775808), Value::Long(-9223372036854775808)),
-    (Value::Long(9223372036854775807), Value::Long(-9223372036854775808)),
+    (
+        Value::Long(-9223372036854775808),
+        Value::Long(-9223372036854775808),
+    ),
+    (
+        Value::Long(9223372036854775807),
+        Value::Long(-9223372036854775808),
+    ),
     (Value::Byte(-128), Value::Byte(-128)),
     (Value::Byte(127), Value::Byte(-128)),
     (Value::Short(-32768), Value::Short(-32768)),
@@ -194,7 +226,10 @@ const MASKED: [(Value, Value); 15] = [
     (Value::Int(-1), Value::Int(0)),
     (Value::Int(-2147483648), Value::Int(2147483647)),
     (Value::Int(-6), Value::Int(3)),
-    (Value::Long(-9223372036854775808), Value::Long(9223372036854775807)),
+    (
+        Value::Long(-9223372036854775808),
+        Value::Long(9223372036854775807),
+    ),
     (Value::Long(-1), Value::Int(-2147483648)),
     (Value::Int(-1), Value::Long(4294967295)),
     (Value::Byte(31), Value::Char(71)),
@@ -221,10 +256,23 @@ fn print_unary(rt: &LibcRuntime, operand: Value) -> io::Result<()> {
     Ok(())
 }
 
-fn print_binary(rt: &LibcRuntime, operators: &[Binary], left: Value, right: Value) -> io::Result<()> {
+fn print_binary(
+    rt: &LibcRuntime,
+    operators: &[Binary],
+    left: Value,
+    right: Value,
+) -> io::Result<()> {
     for operator in operators {
         let operator = *operator;
-        println!(rt, "{}", BinaryCase { operator, left, right })?;
+        println!(
+            rt,
+            "{}",
+            BinaryCase {
+                operator,
+                left,
+                right
+            }
+        )?;
     }
     Ok(())
 }
@@ -267,6 +315,20 @@ pub fn print_bitwise(rt: &LibcRuntime) -> io::Result<()> {
 
 pub fn print_logic(rt: &LibcRuntime) -> io::Result<()> {
     print_pairs(rt, &BITWISE, &TRUTHS)?;
-    println!(rt, "{}", UnaryCase { operator: Unary::Not, operand: Value::Boolean(false) })?;
-    println!(rt, "{}", UnaryCase { operator: Unary::Not, operand: Value::Boolean(true) })
+    println!(
+        rt,
+        "{}",
+        UnaryCase {
+            operator: Unary::Not,
+            operand: Value::Boolean(false)
+        }
+    )?;
+    println!(
+        rt,
+        "{}",
+        UnaryCase {
+            operator: Unary::Not,
+            operand: Value::Boolean(true)
+        }
+    )
 }

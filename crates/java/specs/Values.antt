@@ -8,7 +8,7 @@ use lib.IntN.{ℤ, pos, negsuc, natAbs}
 use lib.Signed.{_≤ℤ_, leZ}
 use mir.Syntax.{w8, w16, w32, w64}
 use Rattle.std.specs.Numbers.{remEuclid}
-use Rattle.std.specs.Written.{decimal, signed}
+use Rattle.std.specs.Written.{signed}
 use Rattle.std.specs.shelf.Signed.{wrapped}
 use Rattle.std.specs.declared.option.Option.{Option}
 use Rattle.std.specs.declared.option.Option.the-variants.{Some, None}
@@ -106,6 +106,6 @@ abbrev pub value-text : Value → List ℕ
 value-text (V.Boolean b) = cond b (codes "true") (codes "false")
 value-text (V.Byte n) = signed n
 value-text (V.Short n) = signed n
-value-text (V.Char n) = decimal n
+value-text (V.Char n) = signed (pos n)
 value-text (V.Int n) = signed n
 value-text (V.Long n) = signed n

@@ -84,7 +84,7 @@ impl Unary {
         }
     }
 
-    pub fn sign(self) -> &'static str
+    fn sign(self) -> &'static str
         ensures { λ r. ⌜ now r ≡ unary-sign self ⌝ }
     {
         match self {
@@ -129,7 +129,7 @@ impl Binary {
         }
     }
 
-    pub fn sign(self) -> &'static str
+    fn sign(self) -> &'static str
         ensures { λ r. ⌜ now r ≡ binary-sign self ⌝ }
     {
         match self {

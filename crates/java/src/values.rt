@@ -145,11 +145,7 @@ pub impl fmt::Display for Value as ValueDisplay {
     fn fmt<W: fmt::Write>(&self, f: &mut fmt::Formatter<W>) -> fmt::Result {
         match *self {
             Value::Boolean(b) => write!(f, "{b}"),
-            Value::Byte(n) => write!(f, "{n}"),
-            Value::Short(n) => write!(f, "{n}"),
-            Value::Char(n) => write!(f, "{n}"),
-            Value::Int(n) => write!(f, "{n}"),
-            Value::Long(n) => write!(f, "{n}"),
+            _ => write!(f, "{}", self.number()),
         }
     }
 }

@@ -13,8 +13,15 @@ import java.util.List;
 import javax.tools.ToolProvider;
 
 public class Worked {
-    // The overload that javac chooses tells the expression's type.
-    static final String SHOW = """
+    // Of each method javac chooses the one for the expression's type. A number that went through `of` is no constant, so
+    // the machine computes with it when the case is run, and not the compiler.
+    static final String METHODS = """
+            static boolean of(boolean v) { return v; }
+            static byte of(byte v) { return v; }
+            static short of(short v) { return v; }
+            static char of(char v) { return v; }
+            static int of(int v) { return v; }
+            static long of(long v) { return v; }
             static String show(boolean v) { return "(boolean) " + v; }
             static String show(byte v) { return "(byte) " + v; }
             static String show(short v) { return "(short) " + v; }
@@ -24,9 +31,10 @@ public class Worked {
             """;
 
     static String source(List<String> expressions) {
-        StringBuilder text = new StringBuilder("public class Cases {\n" + SHOW);
+        StringBuilder text = new StringBuilder("public class Cases {\n" + METHODS);
         for (int i = 0; i < expressions.size(); i++) {
-            text.append("public static String case" + i + "() { return show(" + expressions.get(i) + "); }\n");
+            String computed = expressions.get(i).replaceAll("\\((\\w+)\\) (-?\\w+)", "of(($1) $2)");
+            text.append("public static String case" + i + "() { return show(" + computed + "); }\n");
         }
         return text.append("}\n").toString();
     }

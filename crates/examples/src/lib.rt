@@ -2,6 +2,8 @@
 #[cfg(test)]
 mod files;
 #[cfg(test)]
+mod operators;
+#[cfg(test)]
 mod reading;
 #[cfg(test)]
 mod texts;

@@ -1,7 +1,5 @@
 -- The lines that are printed: an expression as Java writes it, and what our definitions give for it.
-use mathlib.Core.Bool.{cond}
-use mathlib.Core.List.{List, []}
-use mathlib.Core.List.{_++_}
+use mathlib.Core.List.{List, [], _++_}
 use Prim.Native.Nat.{ℕ}
 use lib.Chars.{codes}
 use Rattle.std.specs.declared.option.Option.{Option}
@@ -17,7 +15,7 @@ use Rattle.java.specs.declared.results.NoValue.{NoValue}
 use Rattle.java.specs.declared.results.NoValue.the-variants.{Untyped, ZeroDivisor}
 use Rattle.java.specs.Types.{type-name}
 use Rattle.java.specs.Values.{value-type, value-text}
-use Rattle.java.specs.Operators.{unary-sign, binary-sign}
+use Rattle.java.specs.Operators.{unary-symbol, binary-symbol}
 use Rattle.java.specs.Results.{unary-value, binary-value}
 
 -- what follows a number of this type in Java
@@ -37,7 +35,7 @@ given None = codes "no type"
 given (Some v) = operand-text v
 
 abbrev pub unary-line : Unary → Value → List ℕ
-unary-line o v = unary-sign o ++ (operand-text v ++ (codes " = " ++ given (unary-value o v)))
+unary-line o v = unary-symbol o ++ (operand-text v ++ (codes " = " ++ given (unary-value o v)))
 
 abbrev pub outcome : Result Value NoValue → List ℕ
 outcome (Ok v) = operand-text v
@@ -45,4 +43,4 @@ outcome (Err Untyped) = codes "no type"
 outcome (Err ZeroDivisor) = codes "zero divisor"
 
 abbrev pub binary-line : Binary → Value → Value → List ℕ
-binary-line o l r = operand-text l ++ (codes " " ++ (binary-sign o ++ (codes " " ++ (operand-text r ++ (codes " = " ++ outcome (binary-value o l r))))))
+binary-line o l r = operand-text l ++ (codes " " ++ (binary-symbol o ++ (codes " " ++ (operand-text r ++ (codes " = " ++ outcome (binary-value o l r))))))

@@ -1,4 +1,5 @@
-// The cases: the worked examples that Java's specification gives, and each type at its least and its greatest number.
+// The cases: the worked examples of Java's specification, further ones of rounding, wrapping and shift counts, and each
+// type at its least and its greatest number.
 use crate::lines::BinaryCase;
 use crate::lines::BinaryCaseDisplay;
 use crate::lines::UnaryCase;
@@ -57,7 +58,7 @@ const BITWISE: [Binary; 3] = [
     Binary::Bitwise(Bitwise::Or),
 ];
 
-const NUMBERS: [Value; 29] = [
+const UNARY_OPERANDS: [Value; 30] = [
     Value::Byte(-128),
     Value::Byte(127),
     Value::Short(-32768),
@@ -68,6 +69,7 @@ const NUMBERS: [Value; 29] = [
     Value::Int(2147483647),
     Value::Long(-9223372036854775808),
     Value::Long(9223372036854775807),
+    Value::Char(291),
     Value::Int(0),
     Value::Int(1),
     Value::Int(-1),
@@ -89,7 +91,7 @@ const NUMBERS: [Value; 29] = [
     Value::Long(1311768467463790320),
 ];
 
-const DIVIDED: [(Value, Value); 32] = [
+const ARITHMETIC_OPERANDS: [(Value, Value); 36] = [
     (Value::Int(-7), Value::Int(2)),
     (Value::Int(7), Value::Int(-2)),
     (Value::Int(-7), Value::Int(-2)),
@@ -100,8 +102,12 @@ const DIVIDED: [(Value, Value); 32] = [
     (Value::Int(-5), Value::Int(-3)),
     (Value::Int(1000000), Value::Int(1000000)),
     (Value::Long(1000000), Value::Long(1000000)),
-    (Value::Long(20296), Value::Long(0)),
+    (Value::Int(20296), Value::Long(0)),
     (Value::Int(1), Value::Int(0)),
+    (Value::Long(1), Value::Long(0)),
+    (Value::Long(1), Value::Int(0)),
+    (Value::Char(65535), Value::Char(0)),
+    (Value::Byte(127), Value::Byte(-128)),
     (Value::Int(-2147483648), Value::Int(2147483647)),
     (Value::Int(2147483647), Value::Int(2147483647)),
     (Value::Int(0), Value::Int(-2147483648)),
@@ -130,7 +136,7 @@ const DIVIDED: [(Value, Value); 32] = [
     (Value::Int(-2147483648), Value::Long(1)),
 ];
 
-const SHIFTED: [(Value, Value); 30] = [
+const SHIFT_OPERANDS: [(Value, Value); 34] = [
     (Value::Int(1), Value::Int(33)),
     (Value::Int(-1), Value::Int(28)),
     (Value::Int(1), Value::Int(31)),
@@ -162,27 +168,41 @@ const SHIFTED: [(Value, Value); 30] = [
     (Value::Char(65535), Value::Char(65535)),
     (Value::Char(0), Value::Int(5)),
     (Value::Char(65535), Value::Int(16)),
+    (Value::Int(1), Value::Int(-2147483648)),
+    (Value::Int(-1), Value::Int(2147483647)),
+    (Value::Long(-1), Value::Long(-9223372036854775808)),
+    (Value::Int(-1), Value::Char(0)),
     (Value::Int(-2147483648), Value::Char(65535)),
     (Value::Long(9223372036854775807), Value::Byte(-128)),
 ];
 
-const COMPARED: [(Value, Value); 16] = [
+const COMPARISON_OPERANDS: [(Value, Value); 23] = [
     (Value::Int(-1), Value::Int(0)),
     (Value::Int(0), Value::Int(-1)),
     (Value::Int(3), Value::Int(3)),
     (Value::Int(-2147483648), Value::Int(2147483647)),
+    (Value::Int(2147483647), Value::Int(-2147483648)),
     (
         Value::Long(-9223372036854775808),
         Value::Long(9223372036854775807),
     ),
     (
         Value::Long(9223372036854775807),
+        Value::Long(-9223372036854775808),
+    ),
+    (
+        Value::Long(9223372036854775807),
         Value::Long(9223372036854775807),
     ),
+    (Value::Long(0), Value::Long(-1)),
     (Value::Int(-1), Value::Long(4294967295)),
+    (Value::Long(4294967295), Value::Int(-1)),
     (Value::Byte(-128), Value::Byte(127)),
+    (Value::Byte(127), Value::Byte(-128)),
     (Value::Short(-32768), Value::Short(32767)),
+    (Value::Short(32767), Value::Short(-32768)),
     (Value::Char(0), Value::Char(65535)),
+    (Value::Char(65535), Value::Char(0)),
     (Value::Char(65535), Value::Short(-1)),
     (Value::Char(65535), Value::Int(-1)),
     (Value::Byte(-128), Value::Char(0)),
@@ -191,8 +211,16 @@ const COMPARED: [(Value, Value); 16] = [
     (Value::Int(2147483647), Value::Long(2147483648)),
 ];
 
-const EQUATED: [(Value, Value); 21] = [
+const EQUALITY_OPERANDS: [(Value, Value); 26] = [
     (Value::Int(0), Value::Int(0)),
+    (Value::Int(2147483647), Value::Int(2147483647)),
+    (
+        Value::Long(9223372036854775807),
+        Value::Long(9223372036854775807),
+    ),
+    (Value::Byte(127), Value::Byte(127)),
+    (Value::Short(32767), Value::Short(32767)),
+    (Value::Char(65535), Value::Char(65535)),
     (Value::Int(-1), Value::Int(1)),
     (Value::Int(-2147483648), Value::Int(-2147483648)),
     (Value::Int(2147483647), Value::Int(-2147483648)),
@@ -221,7 +249,7 @@ const EQUATED: [(Value, Value); 21] = [
     (Value::Long(127), Value::Short(127)),
 ];
 
-const MASKED: [(Value, Value); 15] = [
+const BITWISE_OPERANDS: [(Value, Value); 15] = [
     (Value::Int(65280), Value::Int(61680)),
     (Value::Int(-1), Value::Int(0)),
     (Value::Int(-2147483648), Value::Int(2147483647)),
@@ -232,7 +260,7 @@ const MASKED: [(Value, Value); 15] = [
     ),
     (Value::Long(-1), Value::Int(-2147483648)),
     (Value::Int(-1), Value::Long(4294967295)),
-    (Value::Byte(31), Value::Char(71)),
+    (Value::Char(71), Value::Byte(31)),
     (Value::Byte(-128), Value::Byte(127)),
     (Value::Short(-32768), Value::Short(32767)),
     (Value::Char(65535), Value::Char(0)),
@@ -242,7 +270,7 @@ const MASKED: [(Value, Value); 15] = [
     (Value::Char(65535), Value::Long(-65536)),
 ];
 
-const TRUTHS: [(Value, Value); 4] = [
+const BOOLEAN_OPERANDS: [(Value, Value); 4] = [
     (Value::Boolean(false), Value::Boolean(false)),
     (Value::Boolean(false), Value::Boolean(true)),
     (Value::Boolean(true), Value::Boolean(false)),
@@ -262,8 +290,7 @@ fn print_binary(
     left: Value,
     right: Value,
 ) -> io::Result<()> {
-    for operator in operators {
-        let operator = *operator;
+    for &operator in operators {
         println!(
             rt,
             "{}",
@@ -278,57 +305,51 @@ fn print_binary(
 }
 
 fn print_pairs(rt: &LibcRuntime, operators: &[Binary], pairs: &[(Value, Value)]) -> io::Result<()> {
-    for pair in pairs {
-        let (left, right) = *pair;
+    for &(left, right) in pairs {
         print_binary(rt, operators, left, right)?;
     }
     Ok(())
 }
 
-pub fn print_numbers(rt: &LibcRuntime) -> io::Result<()> {
-    for operand in NUMBERS {
+pub fn print_unary_cases(rt: &LibcRuntime) -> io::Result<()> {
+    for operand in UNARY_OPERANDS {
         print_unary(rt, operand)?;
     }
     Ok(())
 }
 
 pub fn print_arithmetic(rt: &LibcRuntime) -> io::Result<()> {
-    print_pairs(rt, &ARITHMETIC, &DIVIDED)
+    print_pairs(rt, &ARITHMETIC, &ARITHMETIC_OPERANDS)
 }
 
 pub fn print_shifts(rt: &LibcRuntime) -> io::Result<()> {
-    print_pairs(rt, &SHIFTS, &SHIFTED)
+    print_pairs(rt, &SHIFTS, &SHIFT_OPERANDS)
 }
 
 pub fn print_comparisons(rt: &LibcRuntime) -> io::Result<()> {
-    print_pairs(rt, &COMPARISONS, &COMPARED)
+    print_pairs(rt, &COMPARISONS, &COMPARISON_OPERANDS)
 }
 
 pub fn print_equalities(rt: &LibcRuntime) -> io::Result<()> {
-    print_pairs(rt, &EQUALITIES, &EQUATED)?;
-    print_pairs(rt, &EQUALITIES, &TRUTHS)
+    print_pairs(rt, &EQUALITIES, &EQUALITY_OPERANDS)?;
+    print_pairs(rt, &EQUALITIES, &BOOLEAN_OPERANDS)
 }
 
 pub fn print_bitwise(rt: &LibcRuntime) -> io::Result<()> {
-    print_pairs(rt, &BITWISE, &MASKED)
+    print_pairs(rt, &BITWISE, &BITWISE_OPERANDS)
 }
 
 pub fn print_logic(rt: &LibcRuntime) -> io::Result<()> {
-    print_pairs(rt, &BITWISE, &TRUTHS)?;
-    println!(
-        rt,
-        "{}",
-        UnaryCase {
-            operator: Unary::Not,
-            operand: Value::Boolean(false)
-        }
-    )?;
-    println!(
-        rt,
-        "{}",
-        UnaryCase {
-            operator: Unary::Not,
-            operand: Value::Boolean(true)
-        }
-    )
+    print_pairs(rt, &BITWISE, &BOOLEAN_OPERANDS)?;
+    for b in [false, true] {
+        println!(
+            rt,
+            "{}",
+            UnaryCase {
+                operator: Unary::Not,
+                operand: Value::Boolean(b)
+            }
+        )?;
+    }
+    Ok(())
 }

@@ -2,6 +2,7 @@
 // operators give is shown by the program `conformance`, on Java's own answers.
 use java::Binary;
 use java::Primitive;
+use java::PrimitivePartialEq;
 use java::Unary;
 use java::Value;
 use std::test::*;
@@ -138,7 +139,10 @@ fn unary_operators_are_typed_by_their_rules() -> Result<(), Fail> {
 #[test]
 fn other_codes_name_no_operator() -> Result<(), Fail> {
     for code in 0..=255 {
-        check_eq(Unary::from_code(code).is_some(), code <= 3 || (17 <= code && code <= 21))?;
+        check_eq(
+            Unary::from_code(code).is_some(),
+            code <= 3 || (17 <= code && code <= 21),
+        )?;
         check_eq(Binary::from_code(code).is_some(), code <= 16)?;
     }
     Ok(())

@@ -1,7 +1,7 @@
 -- == is an equivalence, that of equal numbers, and < a strict order.
-use mathlib.Core.Path.{_≡_, refl, sym, ap, subst, _∙_}
+use mathlib.Core.Path.{_≡_, refl, sym, ap, _∙_}
 use mathlib.Core.Bool.{Bool, true, false, cond, _||_}
-use mathlib.Core.Logic.{_⊎_, inl, inr}
+use mathlib.Core.Logic.{inl, inr}
 use Prim.Native.Nat.{ℕ}
 use native.Mathlib.Omega.{arith}
 use lib.Dec.{eqb}
@@ -12,8 +12,7 @@ use Rattle.std.specs.Options.{mapped, okOr}
 use Rattle.std.specs.Results.{isOk}
 use Rattle.std.specs.declared.option.Option.{Option}
 use Rattle.std.specs.declared.option.Option.the-variants.{Some, None}
-use Rattle.std.specs.declared.result.Result.{Result}
-use Rattle.std.specs.declared.result.Result.the-variants.{Ok, Err}
+use Rattle.std.specs.declared.result.Result.the-variants.{Ok}
 use Rattle.std.proofs.shelf.Signed.{by-ltZ}
 use Rattle.std.proofs.shelf.Tests.{true≢false, eqb-true, eq-eqb, or-left, or-right, or-cases}
 use Rattle.java.specs.declared.types.Primitive.{Primitive}
@@ -23,7 +22,6 @@ use Rattle.java.specs.declared.values.Value.the-variants as V
 use Rattle.java.specs.declared.operators.Binary.the-variants as B
 use Rattle.java.specs.declared.operators.Comparison.the-variants as C
 use Rattle.java.specs.declared.operators.Equality.the-variants as E
-use Rattle.java.specs.declared.results.NoValue.{NoValue}
 use Rattle.java.specs.declared.results.NoValue.the-variants.{Untyped}
 use Rattle.java.specs.Subtypes.{subtype, itself}
 use Rattle.java.specs.Values.{value-type, number}
@@ -93,8 +91,12 @@ less-given v w h k e =
 below : (a b : ℤ) → a <ℤ b → ltZ a b ≡ true
 below a b h = sym (omega (arith, ints))
 
+truly : (a b : ℤ) → ltZ a b ≡ true → a <ℤ b
+truly a b e = omega (arith, ints)
+
 pub strict-order : Strict-order
 strict-order = record {
+  numbers = λ v w b g. let t = less-told v w b g in (λ yes. truly _ _ (t .2 ∙ yes), λ less. sym (t .2) ∙ below _ _ less);
   irreflexive = λ v g. let e : ltZ (number v) (number v) ≡ true = less-told v v true g .2 in omega (arith, ints);
   transitive = λ u v w f g.
       let e = less-told u v true f in

@@ -6,7 +6,7 @@ use native.Mathlib.Nat.{div-add-mod', div-le-self, mod-lt, zero-mod}
 use lib.IntN.{ℤ, pos, negsuc, negℤ, natAbs, _+ℤ_, _*ℤ_, zero-*ℤ, negℤ-negℤ, negℤ-+ℤ}
 use lib.Signed.{_≤ℤ_, quotZ, remZ, mag-rem, natAbs-le}
 use mir.Syntax.{Width}
-use mir.Val.{SFits, toZ, ofZ, bits, hbits}
+use mir.Val.{SFits, toZ, ofZ, hbits}
 use mir.ValLaws.{sfits-le}
 use borrow.Author.Differences.{ints}
 use Rattle.std.specs.shelf.Signed.{wrapped}
@@ -22,7 +22,7 @@ some (pos zero) h = absurd (h refl)
 some (pos (suc n)) h = omega arith
 some (negsuc n) h = omega arith
 
-pub size-quotient : (a b : ℤ) → natAbs (quotZ a b) ≡ natAbs a / natAbs b
+size-quotient : (a b : ℤ) → natAbs (quotZ a b) ≡ natAbs a / natAbs b
 size-quotient (pos a) (pos b) = refl
 size-quotient (pos a) (negsuc b) = size-neg (a / suc b)
 size-quotient (negsuc a) (pos b) = size-neg (suc a / b)
@@ -46,7 +46,7 @@ neg-times zero y = zero-*ℤ y ∙ sym (ap negℤ (zero-*ℤ y))
 neg-times (suc n) (pos b) = refl
 neg-times (suc n) (negsuc b) = sym (negℤ-negℤ _)
 
-whole : (a b : ℤ) → quotZ a b *ℤ b +ℤ remZ a b ≡ a
+pub whole : (a b : ℤ) → quotZ a b *ℤ b +ℤ remZ a b ≡ a
 whole (pos a) (pos b) = ap pos (div-add-mod' a b)
 whole (pos a) (negsuc b) =
     ap (λ (z : ℤ). z +ℤ pos (a % suc b)) (neg-times (a / suc b) (negsuc b) ∙ negℤ-negℤ (pos (a / suc b * suc b))) ∙ ap pos (div-add-mod' a (suc b))

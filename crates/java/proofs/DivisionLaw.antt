@@ -2,8 +2,8 @@
 use mathlib.Core.Path.{_≡_, refl, sym, ap, ap₂, subst, _∙_}
 use mathlib.Core.Bool.{Bool, true, false, cond}
 use mathlib.Core.List.{[], _∷_}
-use mathlib.Core.Logic.{_⊎_, inl, inr}
-use Prim.Native.Nat.{ℕ, _<_}
+use mathlib.Core.Logic.{inl, inr}
+use Prim.Native.Nat.{_<_}
 use native.Mathlib.Omega.{arith}
 use lib.IntN.{ℤ, pos, natAbs, _+ℤ_, _*ℤ_}
 use lib.Signed.{_≤ℤ_, quotZ, remZ}
@@ -11,12 +11,12 @@ use mir.Syntax.{Width, w32, w64}
 use mir.Val.{SFits}
 use borrow.Author.Differences.{ints}
 use Rattle.std.specs.Options.{mapped, zipped}
-use Rattle.std.specs.declared.option.Option.{Option}
-use Rattle.std.specs.declared.option.Option.the-variants.{Some, None}
+use Rattle.std.specs.declared.option.Option.the-variants.{Some}
 use Rattle.std.specs.Results.{isOk}
 use Rattle.std.specs.declared.result.Result.{Result}
 use Rattle.std.specs.declared.result.Result.the-variants.{Ok, Err}
 use Rattle.std.specs.shelf.Signed.{wrapped}
+use Rattle.std.proofs.shelf.Signed.{wrapped-fits}
 use Rattle.std.proofs.shelf.Tests.{true≢false}
 use Rattle.java.specs.declared.types.Primitive.{Primitive}
 use Rattle.java.specs.declared.types.Numeric.{Numeric}
@@ -27,12 +27,12 @@ use Rattle.java.specs.declared.operators.Arithmetic.{Arithmetic}
 use Rattle.java.specs.declared.operators.Arithmetic.the-variants as A
 use Rattle.java.specs.declared.results.NoValue.{NoValue}
 use Rattle.java.specs.declared.results.NoValue.the-variants.{Untyped, ZeroDivisor}
-use Rattle.java.specs.Types.{numeric, primitive, is-long, widest}
+use Rattle.java.specs.Types.{primitive, is-long, widest}
 use Rattle.java.specs.Values.{value-type, number, In-type, In-range, value-of}
 use Rattle.java.specs.Typing.{promoted-pair}
-use Rattle.java.specs.Results.{is-zero, arithmetic, arithmetic-at, arithmetic-value, binary-value}
+use Rattle.java.specs.Results.{is-zero, arithmetic-at, binary-value}
 use Rattle.java.specs.Laws.{Divided-into, Divided}
-use Rattle.java.proofs.Division.{whole-wraps, remainder-wraps, remainder-up, remainder-down, remainder-below}
+use Rattle.java.proofs.Division.{whole, whole-wraps, remainder-wraps, remainder-up, remainder-down, remainder-below}
 use Rattle.java.proofs.Ranges.{type-kept, wider}
 use Rattle.java.proofs.Rules.{numeric-of, Both-promoted, pair-seen, pair-least}
 
@@ -79,8 +79,10 @@ at l r n w kept left both range some q m is-q is-m =
     let times : binary-value (B.Arithmetic A.Times) q r ≡ Ok p = ap (arithmetic-at A.Times (number q) b) (ap (λ (t : Primitive). promoted-pair t (value-type r)) tq ∙ left) in
     let plus : binary-value (B.Arithmetic A.Plus) p m ≡ Ok s = ap (arithmetic-at A.Plus (number p) (number m)) (ap₂ promoted-pair tp tm ∙ both) in
     let np : number p ≡ wrapped w (wrapped w (quotZ a b) *ℤ b) = kept .0 (number q *ℤ b) ∙ ap (λ (z : ℤ). wrapped w (z *ℤ b)) nq in
-    let ns : number s ≡ a = kept .0 (number p +ℤ number m) ∙ ap₂ (λ (x y : ℤ). wrapped w (x +ℤ y)) np (ap number is-m ∙ kept .0 (remZ a b)) ∙ whole-wraps w a b fits in (
+    let ns : number s ≡ a = kept .0 (number p +ℤ number m) ∙ ap₂ (λ (x y : ℤ). wrapped w (x +ℤ y)) np (ap number is-m ∙ kept .0 (remZ a b)) ∙ whole-wraps w a b fits in
+    let exact : In-type (value-type q) (quotZ a b) → number q ≡ quotZ a b = λ h. nq ∙ wrapped-fits w (quotZ a b) (kept .1 (quotZ a b) (subst (λ (t : Primitive). In-type t (quotZ a b)) tq h)) in (
       (p, s, times, plus, ns),
+      (quotZ a b, ap (λ (z : ℤ). quotZ a b *ℤ b +ℤ z) nm ∙ whole a b, exact),
       λ h. subst (λ (z : ℤ). pos 0 ≤ℤ z) (sym nm) (remainder-up a b h),
       λ h. subst (λ (z : ℤ). z ≤ℤ pos 0) (sym nm) (remainder-down a b h),
       subst (λ (z : ℤ). natAbs z < natAbs b) (sym nm) (remainder-below a b some),

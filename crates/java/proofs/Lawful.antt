@@ -8,18 +8,18 @@ use Rattle.java.specs.declared.operators.Binary.{Binary}
 use Rattle.java.specs.declared.results.NoValue.{NoValue}
 use Rattle.java.specs.Values.{In-range}
 use Rattle.java.specs.Results.{unary-value, binary-value}
-use Rattle.java.specs.Laws.{Cast-alone, Unary-typed, Widened, Unary-lawful, Binary-typed, Binary-lawful}
+use Rattle.java.specs.Laws.{Cast-unique, Unary-typed, Widened, Unary-lawful, Binary-typed, Binary-lawful}
 use Rattle.java.proofs.Comparing.{equivalence, strict-order}
 use Rattle.java.proofs.DivisionLaw.{divided}
-use Rattle.java.proofs.Ranges.{wrapped-alone}
-use Rattle.java.proofs.Typed.{unary-typed, cast-alone, widened, binary-typed}
+use Rattle.java.proofs.Ranges.{wrapped-unique}
+use Rattle.java.proofs.Typed.{unary-typed, cast-unique, widened, binary-typed}
 
 pub unary-lawful : (o : Unary) (v : Value) (r : Option Value) → In-range v → r ≡ unary-value o v → Unary-lawful o v r
 unary-lawful o v r range e = record {
   typed = subst (Unary-typed o v) (sym e) (unary-typed o v);
-  cast = subst (Cast-alone o v) (sym e) (cast-alone o v);
+  cast = subst (Cast-unique o v) (sym e) (cast-unique o v);
   widened = subst (Widened o v) (sym e) (widened o v range);
-  wrapped-alone = wrapped-alone;
+  wrapped-unique = wrapped-unique;
 }
 
 pub binary-lawful : (o : Binary) (l r : Value) (x : Result Value NoValue) → In-range l → x ≡ binary-value o l r → Binary-lawful o l r x

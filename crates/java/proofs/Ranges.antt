@@ -2,17 +2,16 @@
 -- number of a type is one of every wider type.
 use mathlib.Core.Path.{_≡_, refl, sym, ap, subst, _∙_}
 use mathlib.Core.Bool.{Bool, true, false, cond}
-use Prim.Native.Nat.{ℕ, _+_, _*_, _^_, _<_, _≤_}
-use native.Mathlib.Nat.{mod-eq-of-lt}
+use Prim.Native.Nat.{_^_}
 use native.Mathlib.Omega.{arith}
-use lib.IntN.{ℤ, pos, negsuc, negℤ, natAbs, _+ℤ_}
+use lib.IntN.{ℤ, pos, negsuc}
 use lib.Signed.{leZ}
 use mir.Syntax.{Width, w8, w16, w32, w64}
-use mir.Val.{SFits, bits, hbits}
+use mir.Val.{SFits, bits}
 use borrow.Author.Differences.{ints}
 use Rattle.std.specs.declared.option.Option.the-variants.{Some}
 use Rattle.std.specs.shelf.Signed.{wrapped}
-use Rattle.std.proofs.shelf.Signed.{wrapped-fits, sfits-wrapped}
+use Rattle.std.proofs.shelf.Signed.{sfits-wrapped}
 use Rattle.java.specs.declared.types.Primitive.{Primitive}
 use Rattle.java.specs.declared.types.Primitive.the-variants as P
 use Rattle.java.specs.declared.types.Numeric.{Numeric}
@@ -20,8 +19,8 @@ use Rattle.java.specs.declared.types.Numeric.the-variants as N
 use Rattle.java.specs.declared.values.Value.{Value}
 use Rattle.java.specs.Types.{primitive}
 use Rattle.java.specs.Subtypes.{_≼_, byte-short, short-int, char-int, int-long, itself, chained}
-use Rattle.java.specs.Values.{number, value-type, In-type, residue, width, value-of, value-with, Newly}
-use Rattle.java.specs.Laws.{Congruent, Only, Signed, Wrapped-alone}
+use Rattle.java.specs.Values.{number, value-type, In-type, residue, width, value-of, value-with, Constructed}
+use Rattle.java.specs.Laws.{Congruent, Only, Signed, Wrapped-unique}
 use Rattle.java.proofs.Residues.{residue-same, residue-below, residue-congruent, residue-whole}
 use Rattle.java.proofs.Wrapping.{wrapped-congruent, wrapped-only}
 
@@ -32,15 +31,15 @@ signed-in w z f = (omega (arith, ints), omega (arith, ints))
 signed-out : (w : Width) (z : ℤ) → Signed w z → SFits w z
 signed-out w z (low, high) = omega (arith, ints)
 
-pub wrapped-alone : Wrapped-alone
-wrapped-alone w z = (signed-in w (wrapped w z) (sfits-wrapped w z), wrapped-congruent w z, λ y s c. wrapped-only w z y (signed-out w y s) c)
+pub wrapped-unique : Wrapped-unique
+wrapped-unique w z = (signed-in w (wrapped w z) (sfits-wrapped w z), wrapped-congruent w z, λ y s c. wrapped-only w z y (signed-out w y s) c)
 
 -- a signed type has the range of its width, and its values keep what is left there
-alone-at : (w : Width) (t : Primitive) (z : ℤ) → ((y : ℤ) → SFits w y → In-type t y) → ((y : ℤ) → In-type t y → SFits w y) → Only (In-type t) (2 ^ bits w) z (wrapped w z)
-alone-at w t z to from = (to (wrapped w z) (sfits-wrapped w z), wrapped-congruent w z, λ y h c. wrapped-only w z y (from y h) c)
+unique-at : (w : Width) (t : Primitive) (z : ℤ) → ((y : ℤ) → SFits w y → In-type t y) → ((y : ℤ) → In-type t y → SFits w y) → Only (In-type t) (2 ^ bits w) z (wrapped w z)
+unique-at w t z to from = (to (wrapped w z) (sfits-wrapped w z), wrapped-congruent w z, λ y h c. wrapped-only w z y (from y h) c)
 
-char-alone : (z : ℤ) → Only (In-type P.Char) (2 ^ 16) z (pos (residue 16 z))
-char-alone z =
+char-unique : (z : ℤ) → Only (In-type P.Char) (2 ^ 16) z (pos (residue 16 z))
+char-unique z =
     let small = residue-below 16 z in
     ((omega (arith, ints), omega (arith, ints)), residue-congruent 16 z, λ y h c. only y h c)
   where
@@ -55,16 +54,16 @@ type-kept N.Char z = refl
 type-kept N.Int z = refl
 type-kept N.Long z = refl
 
-pub kept-alone : (n : Numeric) (z : ℤ) → Only (In-type (primitive n)) (2 ^ width n) z (number (value-of n z))
-kept-alone N.Byte z = alone-at w8 P.Byte z (λ y f. (omega (arith, ints), omega (arith, ints))) (λ y h. omega (arith, ints))
-kept-alone N.Short z = alone-at w16 P.Short z (λ y f. (omega (arith, ints), omega (arith, ints))) (λ y h. omega (arith, ints))
-kept-alone N.Char z = char-alone z
-kept-alone N.Int z = alone-at w32 P.Int z (λ y f. (omega (arith, ints), omega (arith, ints))) (λ y h. omega (arith, ints))
-kept-alone N.Long z = alone-at w64 P.Long z (λ y f. (omega (arith, ints), omega (arith, ints))) (λ y h. omega (arith, ints))
+pub kept-unique : (n : Numeric) (z : ℤ) → Only (In-type (primitive n)) (2 ^ width n) z (number (value-of n z))
+kept-unique N.Byte z = unique-at w8 P.Byte z (λ y f. (omega (arith, ints), omega (arith, ints))) (λ y h. omega (arith, ints))
+kept-unique N.Short z = unique-at w16 P.Short z (λ y f. (omega (arith, ints), omega (arith, ints))) (λ y h. omega (arith, ints))
+kept-unique N.Char z = char-unique z
+kept-unique N.Int z = unique-at w32 P.Int z (λ y f. (omega (arith, ints), omega (arith, ints))) (λ y h. omega (arith, ints))
+kept-unique N.Long z = unique-at w64 P.Long z (λ y f. (omega (arith, ints), omega (arith, ints))) (λ y h. omega (arith, ints))
 
 -- so a number of the type is kept whole
 pub kept-whole : (n : Numeric) (z : ℤ) → In-type (primitive n) z → number (value-of n z) ≡ z
-kept-whole n z h = sym (kept-alone n z .2 z h (0, 0, refl))
+kept-whole n z h = sym (kept-unique n z .2 z h (0, 0, refl))
 
 -- a number of a type is one of each wider type
 pub wider : {a b : Primitive} → a ≼ b → (z : ℤ) → In-type a z → In-type b z
@@ -99,8 +98,8 @@ type-held P.Char z = refl
 type-held P.Int z = refl
 type-held P.Long z = refl
 
-pub newly : (t : Primitive) (z : ℤ) (v : Value) → v ≡ value-with t z → In-type t z → Newly t z (Some v)
-newly t z v e h =
+pub constructed : (t : Primitive) (z : ℤ) (v : Value) → v ≡ value-with t z → In-type t z → Constructed t z (Some v)
+constructed t z v e h =
     let type : value-type v ≡ t = ap value-type e ∙ type-held t z in
     let same : number v ≡ z = ap number e ∙ number-held t z h in
     (type, same, subst (λ (s : Primitive). In-type s (number v)) (sym type) (subst (In-type t) (sym same) h))

@@ -1,14 +1,11 @@
 -- What is left of a number modulo a power of two: it is a residue of that number alone, and any bits of the number give it.
 use mathlib.Core.Path.{_≡_, refl, sym, ap, _∙_}
-use Prim.Native.Nat.{ℕ, suc, _+_, _-_, _*_, _/_, _%_, _^_, _≤_, _<_}
+use Prim.Native.Nat.{ℕ, _+_, _-_, _*_, _/_, _%_, _^_, _≤_, _<_}
 use native.Mathlib.Omega.{arith}
 use native.Mathlib.Nat.{div-add-mod', mod-eq-of-lt, mod-lt, mul-le-mul-left}
 use lib.IntN.{ℤ, pos, negsuc, natAbs, _+ℤ_}
 use lib.Pow.{pow-pos}
-use mir.Syntax.{Width}
-use mir.Val.{SFits, toZ, ofZ, bits}
 use borrow.Author.Differences.{up, down, ints}
-use Rattle.std.specs.Numbers.{remEuclid}
 use Rattle.std.proofs.shelf.Signed.{remEuclid-is}
 use Rattle.java.specs.Values.{residue}
 use Rattle.java.specs.Laws.{Congruent}

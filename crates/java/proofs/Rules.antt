@@ -1,7 +1,7 @@
 -- The functions that type an operator's result and the rules say the same.
 use mathlib.Core.Path.{_≡_, refl, sym, ap, subst, _∙_}
 use mathlib.Core.Bool.{Bool, true, false, cond, _&&_, _||_}
-use mathlib.Core.List.{map, List, [], _∷_}
+use mathlib.Core.List.{[], _∷_}
 use mathlib.Core.Logic.{_⊎_, inl, inr}
 use Rattle.std.specs.Options.{isSome, mapped, zipped, andOther}
 use Rattle.std.specs.declared.option.Option.{Option}
@@ -16,9 +16,9 @@ use Rattle.java.specs.declared.operators.Unary.the-variants as U
 use Rattle.java.specs.declared.operators.Binary.{Binary}
 use Rattle.java.specs.declared.operators.Binary.the-variants as B
 use Rattle.java.specs.Types.{numeric, primitive, widest}
-use Rattle.java.specs.Subtypes.{_≼_, Least-above, same-type, subtype}
-use Rattle.java.specs.Typing.{Is-numeric, Unary-rule, plus, minus, complement, negation, cast, Binary-rule, arithmetic, shift, comparison, equal-to-wider, equal-to-narrower, bit-by-bit, logical, promoted, promoted-pair, comparison-type, unary-type, binary-type}
-use Rattle.java.proofs.Subtypes.{one-type, exactly, least-above, widest-alone}
+use Rattle.java.specs.Subtypes.{Least-above, same-type, subtype}
+use Rattle.java.specs.Typing.{Is-numeric, Unary-rule, plus, minus, complement, logical-complement, cast, Binary-rule, arithmetic, shift, comparison, equal-to-wider, equal-to-narrower, bit-by-bit, logical, promoted, promoted-pair, comparison-type, unary-type, binary-type}
+use Rattle.java.proofs.Subtypes.{one-type, exactly, least-above, widest-unique}
 
 -- a type is boolean or one of the numeric types
 pub seen : (a : Primitive) → (a ≡ Boolean) ⊎ ((m : Numeric) × (a ≡ primitive m))
@@ -43,7 +43,7 @@ pub number-type : (a : Primitive) (m : Numeric) → a ≡ primitive m → Is-num
 number-type a m e f = something m (sym (numeric-of m) ∙ ap numeric (sym e ∙ f))
 
 -- the least type above numeric operands is that to which they are promoted, and none other
-pub promoted-least : (a : Primitive) (m : Numeric) → a ≡ primitive m → Least-above (a ∷ []) (primitive (widest (m ∷ [])))
+promoted-least : (a : Primitive) (m : Numeric) → a ≡ primitive m → Least-above (a ∷ []) (primitive (widest (m ∷ [])))
 promoted-least a m e = subst (λ (x : Primitive). Least-above (x ∷ []) (primitive (widest (m ∷ [])))) (sym e) (least-above (m ∷ []))
 
 pub pair-least : (a b : Primitive) (m n : Numeric) → a ≡ primitive m → b ≡ primitive n → Least-above (a ∷ b ∷ []) (primitive (widest (m ∷ n ∷ [])))
@@ -91,7 +91,7 @@ one-holds a t e = elim (one-seen a) [
 one-given : (a t : Primitive) → Is-numeric a → Least-above (a ∷ []) t → mapped primitive (promoted a) ≡ Some t
 one-given a t h least = elim (one-seen a) [
   | inl s ↦ absurd (s .1 h)
-  | inr s ↦ ap (mapped primitive) (s .2) ∙ ap Some (widest-alone (s .0 ∷ []) t (subst (λ (x : Primitive). Least-above (x ∷ []) t) (s .1) least))
+  | inr s ↦ ap (mapped primitive) (s .2) ∙ ap Some (widest-unique (s .0 ∷ []) t (subst (λ (x : Primitive). Least-above (x ∷ []) t) (s .1) least))
 ]
 
 pair-holds : (a b t : Primitive) → mapped primitive (promoted-pair a b) ≡ Some t → Is-numeric a × Is-numeric b × Least-above (a ∷ b ∷ []) t
@@ -105,7 +105,7 @@ pair-holds a b t e = elim (pair-seen a b) [
 pair-given : (a b t : Primitive) → Is-numeric a → Is-numeric b → Least-above (a ∷ b ∷ []) t → mapped primitive (promoted-pair a b) ≡ Some t
 pair-given a b t h k least = elim (pair-seen a b) [
   | inl s ↦ absurd (s .1 h k)
-  | inr s ↦ ap (mapped primitive) (s .4) ∙ ap Some (widest-alone (s .0 ∷ s .1 ∷ []) t (subst (λ (x : Primitive). Least-above (x ∷ primitive (s .1) ∷ []) t) (s .2) (subst (λ (y : Primitive). Least-above (a ∷ y ∷ []) t) (s .3) least)))
+  | inr s ↦ ap (mapped primitive) (s .4) ∙ ap Some (widest-unique (s .0 ∷ s .1 ∷ []) t (subst (λ (x : Primitive). Least-above (x ∷ primitive (s .1) ∷ []) t) (s .2) (subst (λ (y : Primitive). Least-above (a ∷ y ∷ []) t) (s .3) least)))
 ]
 
 pub unary-holds : (o : Unary) (a t : Primitive) → unary-type o a ≡ Some t → Unary-rule o a t
@@ -115,7 +115,7 @@ unary-holds U.Complement a t e = let p = one-holds a t e in complement (p .0) (p
 unary-holds U.Not a t e = by (same-type a Boolean) refl e
   where
     by : (yes : Bool) → same-type a Boolean ≡ yes → cond yes (Some Boolean) None ≡ Some t → Unary-rule U.Not a t
-    by true s f = subst (λ (x : Primitive). Unary-rule U.Not x t) (sym (one-type a Boolean s)) (subst (Unary-rule U.Not Boolean) (inside f) negation)
+    by true s f = subst (λ (x : Primitive). Unary-rule U.Not x t) (sym (one-type a Boolean s)) (subst (Unary-rule U.Not Boolean) (inside f) logical-complement)
     by false s f = absurd (something t (sym f))
 unary-holds (U.Cast n) a t e = elim (seen a) [
   | inl s ↦ absurd (something t (sym e ∙ ap (λ (x : Primitive). mapped (λ _. primitive n) (numeric x)) s))
@@ -126,7 +126,7 @@ pub unary-given : {o : Unary} {a t : Primitive} → Unary-rule o a t → unary-t
 unary-given (plus {a} {t} h l) = one-given a t h l
 unary-given (minus {a} {t} h l) = one-given a t h l
 unary-given (complement {a} {t} h l) = one-given a t h l
-unary-given negation = refl
+unary-given logical-complement = refl
 unary-given (cast {n} {a} h) = elim (seen a) [
   | inl s ↦ absurd (h s)
   | inr s ↦ ap (mapped (λ _. primitive n)) (ap numeric (s .1) ∙ numeric-of (s .0))

@@ -1,6 +1,5 @@
 -- Shifts of a number's bits, as shifts of the number.
 use mathlib.Core.Path.{_≡_, refl, sym, ap, _∙_}
-use mathlib.Core.Bool.{Bool, true, false, cond}
 use Prim.Native.Nat.{ℕ, _+_, _-_, _*_, _/_, _%_, _^_, _≤_, _<_}
 use native.Mathlib.Omega.{arith}
 use lib.IntN.{ℤ, pos, _*ℤ_}
@@ -13,7 +12,6 @@ use Rattle.std.proofs.shelf.Bits.{pow-below, shr-le}
 use Rattle.std.proofs.shelf.Signed.{wrapped-fits, wrapped-mul-right, wrapping-mul-bits, toZ-ofZ}
 use Rattle.java.specs.declared.types.Numeric.{Numeric}
 use Rattle.java.specs.declared.types.Numeric.the-variants as N
-use Rattle.java.specs.Types.{is-long}
 use Rattle.java.specs.Values.{residue, width}
 use Rattle.java.specs.Results.{distance-bits}
 use Rattle.java.proofs.Residues.{residue-below}

@@ -6,7 +6,6 @@ use mathlib.Core.Logic.{_⊎_, inl, inr, ⊎-elim}
 use Prim.Native.Nat.{ℕ, _<_}
 use native.Mathlib.Omega.{arith}
 use lib.Dec.{lit≤}
-use Rattle.std.specs.declared.option.Option.{Option}
 use Rattle.std.specs.declared.option.Option.the-variants.{Some}
 use Rattle.std.specs.shelf.Lists.{All}
 use Rattle.std.proofs.shelf.Tests.{eqb-true, or-cases, or-right, false≢true}
@@ -148,5 +147,5 @@ no-two-ways p q = elim (climbs p) [
 ]
 
 -- there is one least type above some, and it is the widest
-pub widest-alone : (ns : List Numeric) (t : Primitive) → Least-above (map primitive ns) t → primitive (widest ns) ≡ t
-widest-alone ns t (above, least) = no-two-ways (below-others ns t above) (least (primitive (widest ns)) (above-each ns))
+pub widest-unique : (ns : List Numeric) (t : Primitive) → Least-above (map primitive ns) t → primitive (widest ns) ≡ t
+widest-unique ns t (above, least) = no-two-ways (below-others ns t above) (least (primitive (widest ns)) (above-each ns))

@@ -6,7 +6,7 @@ use Prim.Native.Nat.{_^_}
 use native.Mathlib.Omega.{arith}
 use lib.IntN.{ℤ, pos, natAbs, negℤ, _-ℤ_}
 use borrow.Author.Differences.{ints}
-use Rattle.std.specs.Options.{mapped, okOr, andOther}
+use Rattle.std.specs.Options.{mapped, okOr}
 use Rattle.std.specs.declared.option.Option.{Option}
 use Rattle.std.specs.declared.option.Option.the-variants.{Some, None}
 use Rattle.std.specs.declared.result.Result.the-variants.{Ok, Err}
@@ -14,7 +14,6 @@ use Rattle.std.proofs.shelf.Tests.{true≢false, eqb-true, or-cases}
 use Rattle.java.specs.declared.types.Primitive.{Primitive}
 use Rattle.java.specs.declared.types.Primitive.the-variants as P
 use Rattle.java.specs.declared.types.Numeric.{Numeric}
-use Rattle.java.specs.declared.types.Numeric.the-variants as N
 use Rattle.java.specs.declared.values.Value.{Value}
 use Rattle.java.specs.declared.values.Value.the-variants as V
 use Rattle.java.specs.declared.operators.Unary.{Unary}
@@ -30,13 +29,13 @@ use Rattle.java.specs.Subtypes.{_≼_, same-type, subtype}
 use Rattle.java.specs.Values.{value-type, number, In-type, In-range, residue, width, value-of}
 use Rattle.java.specs.Typing.{Unary-rule, Binary-rule, promoted, promoted-pair, promoted-shift, comparison-type, equality-type, unary-type, binary-type}
 use Rattle.java.specs.Results.{truth, unary-value, arithmetic, zero-divisor, arithmetic-at, distance, shifted, compared, equal, bitwise, logical, binary-value}
-use Rattle.java.specs.Laws.{Only, Cast-alone, Unary-typed, Widened, Divides, Binary-typed}
-use Rattle.java.proofs.Ranges.{type-kept, kept-alone, kept-whole, wider}
+use Rattle.java.specs.Laws.{Only, Cast-unique, Unary-typed, Widened, Divides, Binary-typed}
+use Rattle.java.proofs.Ranges.{type-kept, kept-unique, kept-whole, wider}
 use Rattle.java.proofs.Subtypes.{one-type, exactly}
 use Rattle.java.proofs.Rules.{seen, numeric-of, number-type, something, inside, unary-holds, unary-given, binary-holds, binary-given}
 
 range-kept : (n : Numeric) (z : ℤ) → In-range (value-of n z)
-range-kept n z = subst (λ (t : Primitive). In-type t (number (value-of n z))) (sym (type-kept n z)) (kept-alone n z .0)
+range-kept n z = subst (λ (t : Primitive). In-type t (number (value-of n z))) (sym (type-kept n z)) (kept-unique n z .0)
 
 boolean-range : (b : Bool) → In-range (V.Boolean b)
 boolean-range true = (omega (arith, ints), omega (arith, ints))
@@ -145,10 +144,10 @@ widened o v range n e p = elim (seen (value-type v)) [
   )
 ]
 
-pub cast-alone : (o : Unary) (v : Value) → Cast-alone o v (unary-value o v)
-cast-alone o v n e w is =
+pub cast-unique : (o : Unary) (v : Value) → Cast-unique o v (unary-value o v)
+cast-unique o v n e w is =
     let some = sym (ap (λ (c : Unary). unary-value c v) e) ∙ is in
-    subst (λ (x : Value). Only (In-type (primitive n)) (2 ^ width n) (number v) (number x)) (cast-is (numeric (value-type v)) some) (kept-alone n (number v))
+    subst (λ (x : Value). Only (In-type (primitive n)) (2 ^ width n) (number v) (number x)) (cast-is (numeric (value-type v)) some) (kept-unique n (number v))
   where
     cast-is : (x : Option Numeric) → mapped (λ _. value-of n (number v)) x ≡ Some w → value-of n (number v) ≡ w
     cast-is None h = absurd (something w (sym h))

@@ -25,9 +25,6 @@ use Rattle.java.specs.Values.{residue, width, value-of}
 use Rattle.java.specs.Laws.{Congruent}
 use Rattle.java.proofs.Residues.{residue-same, residue-below, residue-congruent}
 
-congruent-sym : (m : ℕ) (a b : ℤ) → Congruent m a b → Congruent m b a
-congruent-sym m a b (i, j, e) = (j, i, sym e)
-
 congruent-trans : (m : ℕ) (a b c : ℤ) → Congruent m a b → Congruent m b c → Congruent m a c
 congruent-trans m a b c (i, j, e) (k, l, f) = (i + k, j + l, omega (arith, ints))
 
@@ -54,15 +51,15 @@ unfolding wrapped residue
 wrapped-only w z y f c = sym (wrapped-fits w y f) ∙ ap (toZ w) (residue-same (bits w) y z c)
 
 -- any low bits of a number are those of what is left of it at a width that has as many
-pub low-kept : (j k : ℕ) (w : Width) (z : ℤ) → bits w ≡ j + k → residue k (wrapped w z) ≡ residue k z
+low-kept : (j k : ℕ) (w : Width) (z : ℤ) → bits w ≡ j + k → residue k (wrapped w z) ≡ residue k z
 low-kept j k w z e = residue-same k (wrapped w z) z (fewer-bits j k (wrapped w z) z (subst (λ (n : ℕ). Congruent (2 ^ n) (wrapped w z) z) e (wrapped-congruent w z)))
 
 -- the low bits of the bits n, and of a number's bits
-pub low-of-read : (j k : ℕ) (w : Width) (n : ℕ) → n < 2 ^ bits w → bits w ≡ j + k → residue k (toZ w n) ≡ n % 2 ^ k
+low-of-read : (j k : ℕ) (w : Width) (n : ℕ) → n < 2 ^ bits w → bits w ≡ j + k → residue k (toZ w n) ≡ n % 2 ^ k
 unfolding residue
 low-of-read j k w n h e = residue-same k (toZ w n) (pos n) (fewer-bits j k (toZ w n) (pos n) (subst (λ (b : ℕ). Congruent (2 ^ b) (toZ w n) (pos n)) e (read-congruent w n h)))
 
-pub low-of-bits : (j k : ℕ) (w : Width) (z : ℤ) → SFits w z → bits w ≡ j + k → ofZ w z % 2 ^ k ≡ residue k z
+low-of-bits : (j k : ℕ) (w : Width) (z : ℤ) → SFits w z → bits w ≡ j + k → ofZ w z % 2 ^ k ≡ residue k z
 low-of-bits j k w z f e = sym (low-of-read j k w (ofZ w z) (laws.ofZ-fits w z f .fits) e) ∙ ap (residue k) (toZ-ofZ w z f)
 
 -- to keep 64 bits on the way to a value changes nothing

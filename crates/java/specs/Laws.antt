@@ -1,9 +1,9 @@
--- What holds of all values and operators, above the definitions that compute them.
+-- What holds of all values and operators, beyond the definitions that compute them.
 use mathlib.Core.Path.{_≡_}
-use mathlib.Core.Bool.{Bool, true, false}
+use mathlib.Core.Bool.{Bool, true}
 use mathlib.Core.Logic.{_⊎_}
 use Prim.Native.Nat.{ℕ, _*_, _^_, _<_}
-use lib.IntN.{ℤ, pos, negℤ, natAbs, _+ℤ_}
+use lib.IntN.{ℤ, pos, negℤ, natAbs, _+ℤ_, _*ℤ_}
 use lib.Signed.{_≤ℤ_, _<ℤ_}
 use mir.Syntax.{Width}
 use mir.Val.{bits, hbits}
@@ -44,12 +44,12 @@ abbrev pub Signed : Width → ℤ → Type 0
 Signed w z = (negℤ (pos (2 ^ hbits w)) ≤ℤ z) × (z <ℤ pos (2 ^ hbits w))
 
 -- what is left of a number at a width is the only signed number there that is congruent to it
-abbrev pub Wrapped-alone : Type 0
-Wrapped-alone = (w : Width) (z : ℤ) → Only (Signed w) (2 ^ bits w) z (wrapped w z)
+abbrev pub Wrapped-unique : Type 0
+Wrapped-unique = (w : Width) (z : ℤ) → Only (Signed w) (2 ^ bits w) z (wrapped w z)
 
 -- a cast to a numeric type gives the only number of the type's range that is congruent to the operand's
-abbrev pub Cast-alone : Unary → Value → Option Value → Type 0
-Cast-alone o v r = (n : Numeric) → o ≡ U.Cast n → (w : Value) → r ≡ Some w → Only (In-type (primitive n)) (2 ^ width n) (number v) (number w)
+abbrev pub Cast-unique : Unary → Value → Option Value → Type 0
+Cast-unique o v r = (n : Numeric) → o ≡ U.Cast n → (w : Value) → r ≡ Some w → Only (In-type (primitive n)) (2 ^ width n) (number v) (number w)
 
 -- a unary operator gives a value exactly where a rule gives a type, and of that type
 abbrev pub Unary-typed : Unary → Value → Option Value → Type 0
@@ -71,14 +71,17 @@ Binary-typed o l r (Err Untyped) = (t : Primitive) → Binary-rule o (value-type
 Binary-typed o l r (Err ZeroDivisor) = Divides o × (number r ≡ pos 0) × ((t : Primitive) × Binary-rule o (value-type l) (value-type r) t)
 
 -- of l by r, with quotient q and remainder m: quotient times divisor plus remainder, each by the operators themselves,
--- is the dividend again; the remainder is zero or of the dividend's sign, and smaller than the divisor
+-- is the dividend again; the remainder is zero or of the dividend's sign, and smaller than the divisor; with a whole
+-- number k in place of the quotient the same holds without wrapping, and q is k wherever its type has k
 abbrev pub Divided-into : Value → Value → Value → Value → Type 0
 Divided-into l r q m =
     ((p : Value) × (s : Value) × (binary-value (B.Arithmetic A.Times) q r ≡ Ok p) × (binary-value (B.Arithmetic A.Plus) p m ≡ Ok s) × (number s ≡ number l))
+    × ((k : ℤ) × (k *ℤ number r +ℤ number m ≡ number l) × (In-type (value-type q) k → number q ≡ k))
     × (pos 0 ≤ℤ number l → pos 0 ≤ℤ number m)
     × (number l ≤ℤ pos 0 → number m ≤ℤ pos 0)
     × (natAbs (number m) < natAbs (number r))
 
+-- so wherever both / and % have a value
 abbrev pub Divided : Value → Value → Type 0
 Divided l r = (q m : Value) → binary-value (B.Arithmetic A.Divide) l r ≡ Ok q → binary-value (B.Arithmetic A.Remainder) l r ≡ Ok m → Divided-into l r q m
 
@@ -93,8 +96,9 @@ pub record Equivalence : Type 0 where
   pub symmetric : (v w : Value) (b : Bool) → Gives (B.Equality E.Equal) v w b → Gives (B.Equality E.Equal) w v b
   pub transitive : (u v w : Value) (b : Bool) → Gives (B.Equality E.Equal) u v true → Gives (B.Equality E.Equal) v w true → Gives (B.Equality E.Equal) u w b → b ≡ true
 
--- < is a strict order on the numeric values, total on their numbers
+-- < is a strict order, that of the numbers, wherever it has a type, and total on the numbers of numeric values
 pub record Strict-order : Type 0 where
+  pub numbers : (v w : Value) (b : Bool) → Gives (B.Comparison C.Less) v w b → (b ≡ true → number v <ℤ number w) × (number v <ℤ number w → b ≡ true)
   pub irreflexive : (v : Value) → Gives (B.Comparison C.Less) v v true → ⊥
   pub transitive : (u v w : Value) → Gives (B.Comparison C.Less) u v true → Gives (B.Comparison C.Less) v w true → Gives (B.Comparison C.Less) u w true
   pub total : (v w : Value) → Is-numeric (value-type v) → Is-numeric (value-type w) → Gives (B.Comparison C.Less) v w true ⊎ (number v ≡ number w) ⊎ Gives (B.Comparison C.Less) w v true
@@ -102,9 +106,9 @@ pub record Strict-order : Type 0 where
 -- all that holds of a unary operator o, which gave r on v
 pub record Unary-lawful (o : Unary) (v : Value) (r : Option Value) : Type 0 where
   pub typed : Unary-typed o v r
-  pub cast : Cast-alone o v r
+  pub cast : Cast-unique o v r
   pub widened : Widened o v r
-  pub wrapped-alone : Wrapped-alone
+  pub wrapped-unique : Wrapped-unique
 
 -- all that holds of a binary operator o, which gave x on l and r
 pub record Binary-lawful (o : Binary) (l r : Value) (x : Result Value NoValue) : Type 0 where

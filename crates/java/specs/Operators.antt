@@ -1,6 +1,6 @@
 -- The operators: the code of each in stored data, and its sign in Java.
 use mathlib.Core.Bool.{cond}
-use mathlib.Core.List.{List, _++_}
+use mathlib.Core.List.{List}
 use Prim.Native.Nat.{ℕ, _+_}
 use lib.Chars.{codes}
 use lib.Dec.{eqb}
@@ -16,7 +16,7 @@ use Rattle.java.specs.declared.operators.Shift.the-variants as S
 use Rattle.java.specs.declared.operators.Comparison.the-variants as C
 use Rattle.java.specs.declared.operators.Equality.the-variants as E
 use Rattle.java.specs.declared.operators.Bitwise.the-variants as W
-use Rattle.java.specs.Types.{type-code, type-name, primitive}
+use Rattle.java.specs.Types.{type-code, primitive}
 
 -- a cast has 16 more than the code of its type
 abbrev pub unary-code : Unary → ℕ
@@ -39,16 +39,16 @@ unary-of c =
     (cond (eqb c 20) (Some (U.Cast N.Int))
     (cond (eqb c 21) (Some (U.Cast N.Long)) None))))))))
 
-abbrev pub unary-sign : Unary → List ℕ
-unary-sign U.Plus = codes "+"
-unary-sign U.Minus = codes "-"
-unary-sign U.Complement = codes "~"
-unary-sign U.Not = codes "!"
-unary-sign (U.Cast N.Byte) = codes "(byte)"
-unary-sign (U.Cast N.Short) = codes "(short)"
-unary-sign (U.Cast N.Char) = codes "(char)"
-unary-sign (U.Cast N.Int) = codes "(int)"
-unary-sign (U.Cast N.Long) = codes "(long)"
+abbrev pub unary-symbol : Unary → List ℕ
+unary-symbol U.Plus = codes "+"
+unary-symbol U.Minus = codes "-"
+unary-symbol U.Complement = codes "~"
+unary-symbol U.Not = codes "!"
+unary-symbol (U.Cast N.Byte) = codes "(byte)"
+unary-symbol (U.Cast N.Short) = codes "(short)"
+unary-symbol (U.Cast N.Char) = codes "(char)"
+unary-symbol (U.Cast N.Int) = codes "(int)"
+unary-symbol (U.Cast N.Long) = codes "(long)"
 
 abbrev pub binary-code : Binary → ℕ
 binary-code (B.Arithmetic A.Times) = 0
@@ -90,21 +90,21 @@ binary-of c =
     (cond (eqb c 15) (Some (B.Bitwise W.Xor))
     (cond (eqb c 16) (Some (B.Bitwise W.Or)) None))))))))))))))))
 
-abbrev pub binary-sign : Binary → List ℕ
-binary-sign (B.Arithmetic A.Times) = codes "*"
-binary-sign (B.Arithmetic A.Divide) = codes "/"
-binary-sign (B.Arithmetic A.Remainder) = codes "%"
-binary-sign (B.Arithmetic A.Plus) = codes "+"
-binary-sign (B.Arithmetic A.Minus) = codes "-"
-binary-sign (B.Shift S.Left) = codes "<<"
-binary-sign (B.Shift S.Right) = codes ">>"
-binary-sign (B.Shift S.UnsignedRight) = codes ">>>"
-binary-sign (B.Comparison C.Less) = codes "<"
-binary-sign (B.Comparison C.LessOrEqual) = codes "<="
-binary-sign (B.Comparison C.Greater) = codes ">"
-binary-sign (B.Comparison C.GreaterOrEqual) = codes ">="
-binary-sign (B.Equality E.Equal) = codes "=="
-binary-sign (B.Equality E.NotEqual) = codes "!="
-binary-sign (B.Bitwise W.And) = codes "&"
-binary-sign (B.Bitwise W.Xor) = codes "^"
-binary-sign (B.Bitwise W.Or) = codes "|"
+abbrev pub binary-symbol : Binary → List ℕ
+binary-symbol (B.Arithmetic A.Times) = codes "*"
+binary-symbol (B.Arithmetic A.Divide) = codes "/"
+binary-symbol (B.Arithmetic A.Remainder) = codes "%"
+binary-symbol (B.Arithmetic A.Plus) = codes "+"
+binary-symbol (B.Arithmetic A.Minus) = codes "-"
+binary-symbol (B.Shift S.Left) = codes "<<"
+binary-symbol (B.Shift S.Right) = codes ">>"
+binary-symbol (B.Shift S.UnsignedRight) = codes ">>>"
+binary-symbol (B.Comparison C.Less) = codes "<"
+binary-symbol (B.Comparison C.LessOrEqual) = codes "<="
+binary-symbol (B.Comparison C.Greater) = codes ">"
+binary-symbol (B.Comparison C.GreaterOrEqual) = codes ">="
+binary-symbol (B.Equality E.Equal) = codes "=="
+binary-symbol (B.Equality E.NotEqual) = codes "!="
+binary-symbol (B.Bitwise W.And) = codes "&"
+binary-symbol (B.Bitwise W.Xor) = codes "^"
+binary-symbol (B.Bitwise W.Or) = codes "|"

@@ -1,5 +1,5 @@
 -- What an operator gives on values: the arithmetic of whole numbers, of which the result's type keeps the low bits.
-use mathlib.Core.Bool.{Bool, true, false, cond, not, _&&_, _||_}
+use mathlib.Core.Bool.{Bool, false, cond, not, _&&_, _||_}
 use Prim.Native.Nat.{ℕ, _/_, _^_}
 use lib.Bits.{bitAnd, bitOr, bitXor}
 use lib.Dec.{eqb}
@@ -33,7 +33,7 @@ use Rattle.java.specs.declared.results.NoValue.the-variants.{Untyped, ZeroDivi
 use Rattle.java.specs.Types.{numeric, is-long}
 use Rattle.java.specs.Subtypes.{same-type}
 use Rattle.java.specs.Values.{value-type, number, residue, width, value-of}
-use Rattle.java.specs.Typing.{promoted, promoted-pair, promoted-shift, negation-type, comparison-type, equality-type}
+use Rattle.java.specs.Typing.{promoted, promoted-pair, promoted-shift, not-type, comparison-type, equality-type}
 
 -- whether a value is the boolean true
 abbrev pub truth : Value → Bool
@@ -44,12 +44,12 @@ truth (V.Char n) = false
 truth (V.Int n) = false
 truth (V.Long n) = false
 
--- the number that a unary operator gives, before bits are lost; ~z is −z − 1
+-- the value that a unary operator gives, or none where no rule fits; ~z is −z − 1
 abbrev pub unary-value : Unary → Value → Option Value
 unary-value U.Plus v = mapped (λ n. value-of n (number v)) (promoted (value-type v))
 unary-value U.Minus v = mapped (λ n. value-of n (negℤ (number v))) (promoted (value-type v))
 unary-value U.Complement v = mapped (λ n. value-of n (negℤ (number v) -ℤ pos 1)) (promoted (value-type v))
-unary-value U.Not v = mapped (λ _. V.Boolean (not (truth v))) (negation-type (value-type v))
+unary-value U.Not v = mapped (λ _. V.Boolean (not (truth v))) (not-type (value-type v))
 unary-value (U.Cast n) v = mapped (λ _. value-of n (number v)) (numeric (value-type v))
 
 -- the arithmetic operators on whole numbers: a quotient is rounded toward zero, and a remainder has the dividend's sign

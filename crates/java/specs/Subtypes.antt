@@ -1,5 +1,5 @@
 -- The subtypes: A ≼ B where each number of A is one of B, and both are numeric or both boolean.
-use mathlib.Core.Bool.{Bool, true, false, _||_}
+use mathlib.Core.Bool.{Bool, false, _||_}
 use mathlib.Core.List.{List, [], _∷_}
 use lib.Dec.{eqb}
 use Rattle.std.specs.shelf.Lists.{All}
@@ -25,7 +25,7 @@ Least-above ts r = All (λ t. t ≼ r) (Int ∷ ts) × ((u : Primitive) → All 
 abbrev pub same-type : Primitive → Primitive → Bool
 same-type a b = eqb (type-code a) (type-code b)
 
--- the same as a test: the types at or above each
+-- ≼ as a test: the types at or above each type
 abbrev pub supertypes : Primitive → List Primitive
 supertypes Boolean = Boolean ∷ []
 supertypes Byte = Byte ∷ Short ∷ Int ∷ Long ∷ []

@@ -1,6 +1,6 @@
 -- The typing rules: the type of an operator's result from the types of its operands, or none.
 use mathlib.Core.Path.{_≡_}
-use mathlib.Core.Bool.{Bool, cond, _&&_, _||_}
+use mathlib.Core.Bool.{cond, _&&_, _||_}
 use mathlib.Core.List.{[], _∷_}
 use Rattle.std.specs.Options.{mapped, zipped, andOther}
 use Rattle.std.specs.declared.option.Option.{Option}
@@ -29,7 +29,7 @@ pub data Unary-rule : Unary → Primitive → Primitive → Type 0 where
   plus : {a t : Primitive} → Is-numeric a → Least-above (a ∷ []) t → Unary-rule U.Plus a t
   minus : {a t : Primitive} → Is-numeric a → Least-above (a ∷ []) t → Unary-rule U.Minus a t
   complement : {a t : Primitive} → Is-numeric a → Least-above (a ∷ []) t → Unary-rule U.Complement a t
-  negation : Unary-rule U.Not Boolean Boolean
+  logical-complement : Unary-rule U.Not Boolean Boolean
   cast : {n : Numeric} {a : Primitive} → Is-numeric a → Unary-rule (U.Cast n) a (primitive n)
 
 -- the same for operands of types a and b
@@ -42,7 +42,7 @@ pub data Binary-rule : Binary → Primitive → Primitive → Primitive → Type
   bit-by-bit : {o : Bitwise} {a b t : Primitive} → Is-numeric a → Is-numeric b → Least-above (a ∷ b ∷ []) t → Binary-rule (B.Bitwise o) a b t
   logical : {o : Bitwise} → Binary-rule (B.Bitwise o) Boolean Boolean Boolean
 
--- the type to which one operand is promoted, that to which two are, and that of what a shift moves
+-- the type to which one operand is promoted, that to which two are, and that to which a shift promotes its left operand
 abbrev pub promoted : Primitive → Option Numeric
 promoted a = mapped (λ m. widest (m ∷ [])) (numeric a)
 
@@ -53,8 +53,8 @@ abbrev pub promoted-shift : Primitive → Primitive → Option Numeric
 promoted-shift a b = andOther (numeric b) (promoted a)
 
 -- the rules as functions
-abbrev pub negation-type : Primitive → Option Primitive
-negation-type a = cond (same-type a Boolean) (Some Boolean) None
+abbrev pub not-type : Primitive → Option Primitive
+not-type a = cond (same-type a Boolean) (Some Boolean) None
 
 abbrev pub cast-type : Numeric → Primitive → Option Primitive
 cast-type n a = mapped (λ _. primitive n) (numeric a)
@@ -63,7 +63,7 @@ abbrev pub unary-type : Unary → Primitive → Option Primitive
 unary-type U.Plus a = mapped primitive (promoted a)
 unary-type U.Minus a = mapped primitive (promoted a)
 unary-type U.Complement a = mapped primitive (promoted a)
-unary-type U.Not a = negation-type a
+unary-type U.Not a = not-type a
 unary-type (U.Cast n) a = cast-type n a
 
 abbrev pub comparison-type : Primitive → Primitive → Option Primitive

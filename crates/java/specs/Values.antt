@@ -18,6 +18,7 @@ use Rattle.java.specs.declared.types.Numeric.{Numeric}
 use Rattle.java.specs.declared.types.Numeric.the-variants as N
 use Rattle.java.specs.declared.values.Value.{Value}
 use Rattle.java.specs.declared.values.Value.the-variants as V
+use Rattle.java.specs.Types.{numeric}
 
 abbrev pub value-type : Value → Primitive
 value-type (V.Boolean b) = P.Boolean
@@ -81,25 +82,25 @@ value-of N.Char z = V.Char (residue 16 z)
 value-of N.Int z = V.Int (wrapped w32 z)
 value-of N.Long z = V.Long (wrapped w64 z)
 
--- the value of a type that has this number, where the type has it
-abbrev pub value-with : Primitive → ℤ → Value
-value-with P.Boolean z = V.Boolean (leZ (pos 1) z)
-value-with P.Byte z = value-of N.Byte z
-value-with P.Short z = value-of N.Short z
-value-with P.Char z = value-of N.Char z
-value-with P.Int z = value-of N.Int z
-value-with P.Long z = value-of N.Long z
+-- the value with a number of a type: at a numeric type, or at boolean, which is none
+abbrev pub numeric-value : Option Numeric → ℤ → Value
+numeric-value None z = V.Boolean (leZ (pos 1) z)
+numeric-value (Some n) z = value-of n z
 
+abbrev pub value-with : Primitive → ℤ → Value
+value-with t z = numeric-value (numeric t) z
+
+-- whether z is a number of the type, and the value with it if so
 abbrev pub in-type : Primitive → ℤ → Bool
 in-type t z = leZ (least t) z && leZ z (greatest t)
 
 abbrev pub new-value : Primitive → ℤ → Option Value
 new-value t z = cond (in-type t z) (Some (value-with t z)) None
 
--- x is the value of the type t with the number z, or none where t has no such number
-abbrev pub Newly : Primitive → ℤ → Option Value → Type 0
-Newly t z (Some v) = (value-type v ≡ t) × (number v ≡ z) × In-range v
-Newly t z None = In-type t z → ⊥
+-- the value that is given has the type t and the number z; none is given only where t has no such number
+abbrev pub Constructed : Primitive → ℤ → Option Value → Type 0
+Constructed t z (Some v) = (value-type v ≡ t) × (number v ≡ z) × In-range v
+Constructed t z None = In-type t z → ⊥
 
 -- a value as text: true or false, or its number
 abbrev pub value-text : Value → List ℕ

@@ -1,4 +1,4 @@
-// What Java says of its primitive types, with no word of scripts.
+// What Java says of its primitive types, their values and the operators on them.
 mod operators;
 mod results;
 mod types;

@@ -4,7 +4,7 @@ ghost use mathlib.Core.Path.{_≡_};
 ghost use Rattle.std.specs.declared.option.Option.the-variants.{Some};
 ghost use Rattle.java.specs.declared.operators.Unary.{Unary};
 ghost use Rattle.java.specs.declared.operators.Binary.{Binary};
-ghost use Rattle.java.specs.Operators.{unary-code, unary-of, unary-sign, binary-code, binary-of, binary-sign};
+ghost use Rattle.java.specs.Operators.{unary-code, unary-of, unary-symbol, binary-code, binary-of, binary-symbol};
 use crate::types::Numeric;
 use std::fmt;
 
@@ -84,8 +84,8 @@ impl Unary {
         }
     }
 
-    fn sign(self) -> &'static str
-        ensures { λ r. ⌜ now r ≡ unary-sign self ⌝ }
+    fn symbol(self) -> &'static str
+        ensures { λ r. ⌜ now r ≡ unary-symbol self ⌝ }
     {
         match self {
             Unary::Plus => "+",
@@ -129,8 +129,8 @@ impl Binary {
         }
     }
 
-    fn sign(self) -> &'static str
-        ensures { λ r. ⌜ now r ≡ binary-sign self ⌝ }
+    fn symbol(self) -> &'static str
+        ensures { λ r. ⌜ now r ≡ binary-symbol self ⌝ }
     {
         match self {
             Binary::Arithmetic(Arithmetic::Times) => "*",
@@ -155,17 +155,17 @@ impl Binary {
 }
 
 pub impl fmt::Display for Unary as UnaryDisplay {
-    ghost shown = { λ o. Some (unary-sign o) };
+    ghost shown = { λ o. Some (unary-symbol o) };
 
     fn fmt<W: fmt::Write>(&self, f: &mut fmt::Formatter<W>) -> fmt::Result {
-        f.write_str(self.sign())
+        f.write_str(self.symbol())
     }
 }
 
 pub impl fmt::Display for Binary as BinaryDisplay {
-    ghost shown = { λ o. Some (binary-sign o) };
+    ghost shown = { λ o. Some (binary-symbol o) };
 
     fn fmt<W: fmt::Write>(&self, f: &mut fmt::Formatter<W>) -> fmt::Result {
-        f.write_str(self.sign())
+        f.write_str(self.symbol())
     }
 }

@@ -79,7 +79,7 @@ impl Primitive {
         }
     }
 
-    // Whether each value of this type is one of the other, with no cast.
+    // Whether every number of this type is one of the other; boolean is a subtype of itself alone.
     pub fn is_subtype_of(self, other: Primitive) -> bool
         ensures value { λ r. ⌜ r ≡ subtype self other ⌝ }
         ensures exact { λ r. ⌜ (r ≡ true → self ≼ other) × (self ≼ other → r ≡ true) ⌝ }
@@ -87,7 +87,7 @@ impl Primitive {
         self.has_above(other)
     }
 
-    // The types at or above each type.
+    // Whether the other type is among those at or above this one.
     fn has_above(self, other: Primitive) -> bool
         ensures { λ r. ⌜ r ≡ subtype self other ⌝ }
     {
@@ -124,8 +124,7 @@ impl Numeric {
         ensures value { λ r. ⌜ r ≡ widest (self ∷ other ∷ []) ⌝ }
     {
         match (self, other) {
-            (Numeric::Long, _) => Numeric::Long,
-            (_, Numeric::Long) => Numeric::Long,
+            (Numeric::Long, _) | (_, Numeric::Long) => Numeric::Long,
             _ => Numeric::Int,
         }
     }

@@ -4,7 +4,7 @@ ghost use Rattle.std.specs.declared.option.Option.the-variants.{Some};
 ghost use Rattle.std.specs.Options.{mapped};
 ghost use Rattle.java.specs.declared.types.Primitive.{Primitive};
 ghost use Rattle.java.specs.Types.{primitive};
-ghost use Rattle.java.specs.Typing.{promoted, promoted-pair, promoted-shift, negation-type, cast-type, comparison-type, equality-type, bitwise-type, unary-type, binary-type, Unary-rule, Binary-rule};
+ghost use Rattle.java.specs.Typing.{promoted, promoted-pair, promoted-shift, not-type, cast-type, comparison-type, equality-type, bitwise-type, unary-type, binary-type, Unary-rule, Binary-rule};
 use crate::operators::Binary;
 use crate::operators::Unary;
 use crate::types::Numeric;
@@ -27,13 +27,11 @@ impl Primitive {
     }
 
     // The type to which a shift by a count of the other type promotes an operand of this one; none if one is boolean.
-    pub(crate) fn promoted_by(self, count: Primitive) -> Option<Numeric>
+    pub(crate) fn promoted_for_shift(self, count: Primitive) -> Option<Numeric>
         ensures { λ r. ⌜ r ≡ promoted-shift self count ⌝ }
     {
-        match count.numeric() {
-            Some(_) => self.promoted(),
-            None => None,
-        }
+        count.numeric()?;
+        self.promoted()
     }
 }
 
@@ -45,7 +43,7 @@ impl Unary {
     {
         match self {
             Unary::Plus | Unary::Minus | Unary::Complement => promoted_type(operand),
-            Unary::Not => negation_type(operand),
+            Unary::Not => not_type(operand),
             Unary::Cast(to) => cast_type(to, operand),
         }
     }
@@ -57,8 +55,8 @@ fn promoted_type(operand: Primitive) -> Option<Primitive>
     Some(Primitive::from(operand.promoted()?))
 }
 
-fn negation_type(operand: Primitive) -> Option<Primitive>
-    ensures { λ r. ⌜ r ≡ negation-type operand ⌝ }
+fn not_type(operand: Primitive) -> Option<Primitive>
+    ensures { λ r. ⌜ r ≡ not-type operand ⌝ }
 {
     match operand {
         Primitive::Boolean => Some(Primitive::Boolean),
@@ -69,10 +67,8 @@ fn negation_type(operand: Primitive) -> Option<Primitive>
 fn cast_type(to: Numeric, operand: Primitive) -> Option<Primitive>
     ensures { λ r. ⌜ r ≡ cast-type to operand ⌝ }
 {
-    match operand.numeric() {
-        Some(_) => Some(Primitive::from(to)),
-        None => None,
-    }
+    operand.numeric()?;
+    Some(Primitive::from(to))
 }
 
 impl Binary {
@@ -100,19 +96,17 @@ fn arithmetic_type(left: Primitive, right: Primitive) -> Option<Primitive>
 fn shift_type(left: Primitive, right: Primitive) -> Option<Primitive>
     ensures { λ r. ⌜ r ≡ mapped primitive (promoted-shift left right) ⌝ }
 {
-    Some(Primitive::from(left.promoted_by(right)?))
+    Some(Primitive::from(left.promoted_for_shift(right)?))
 }
 
-fn comparison_type(left: Primitive, right: Primitive) -> Option<Primitive>
+pub(crate) fn comparison_type(left: Primitive, right: Primitive) -> Option<Primitive>
     ensures { λ r. ⌜ r ≡ comparison-type left right ⌝ }
 {
-    match left.promoted_with(right) {
-        Some(_) => Some(Primitive::Boolean),
-        None => None,
-    }
+    left.promoted_with(right)?;
+    Some(Primitive::Boolean)
 }
 
-fn equality_type(left: Primitive, right: Primitive) -> Option<Primitive>
+pub(crate) fn equality_type(left: Primitive, right: Primitive) -> Option<Primitive>
     ensures { λ r. ⌜ r ≡ equality-type left right ⌝ }
 {
     if left.is_subtype_of(right) || right.is_subtype_of(left) {

@@ -2,7 +2,7 @@
 ghost use mathlib.Core.Path.{_≡_};
 ghost use Prim.Native.Nat.{_-_, _^_, _<_};
 ghost use Rattle.std.specs.declared.option.Option.the-variants.{Some};
-ghost use Rattle.java.specs.Values.{value-type, number, least, greatest, In-range, residue, width, value-of, value-with, new-value, Newly, value-text};
+ghost use Rattle.java.specs.Values.{value-type, number, least, greatest, In-range, residue, width, value-of, value-with, new-value, Constructed, value-text};
 use crate::types::Numeric;
 use crate::types::Primitive;
 use std::fmt;
@@ -24,11 +24,11 @@ impl Primitive {
     {
         match self {
             Primitive::Boolean => 0,
-            Primitive::Byte => -0x80,
-            Primitive::Short => -0x8000,
-            Primitive::Char => 0,
-            Primitive::Int => -0x8000_0000,
-            Primitive::Long => -0x8000_0000_0000_0000,
+            Primitive::Byte => i64::from(i8::MIN),
+            Primitive::Short => i64::from(i16::MIN),
+            Primitive::Char => i64::from(u16::MIN),
+            Primitive::Int => i64::from(i32::MIN),
+            Primitive::Long => i64::MIN,
         }
     }
 
@@ -37,11 +37,11 @@ impl Primitive {
     {
         match self {
             Primitive::Boolean => 1,
-            Primitive::Byte => 0x7f,
-            Primitive::Short => 0x7fff,
-            Primitive::Char => 0xffff,
-            Primitive::Int => 0x7fff_ffff,
-            Primitive::Long => 0x7fff_ffff_ffff_ffff,
+            Primitive::Byte => i64::from(i8::MAX),
+            Primitive::Short => i64::from(i16::MAX),
+            Primitive::Char => i64::from(u16::MAX),
+            Primitive::Int => i64::from(i32::MAX),
+            Primitive::Long => i64::MAX,
         }
     }
 }
@@ -50,7 +50,7 @@ impl Value {
     // The value of a type that has this number; none where the type has no such number.
     pub fn new(of: Primitive, number: i64) -> Option<Value>
         ensures value { λ r. ⌜ r ≡ new-value of number ⌝ }
-        ensures newly { λ r. ⌜ Newly of number r ⌝ }
+        ensures exact { λ r. ⌜ Constructed of number r ⌝ }
     {
         if of.least() <= number && number <= of.greatest() {
             Some(Value::with_number(of, number))
@@ -59,17 +59,13 @@ impl Value {
         }
     }
 
-    // What the low bits of a number give at a type; true above 0.
+    // The value with a number of the type.
     fn with_number(of: Primitive, number: i64) -> Value
         ensures { λ r. ⌜ r ≡ value-with of number ⌝ }
     {
-        match of {
-            Primitive::Boolean => Value::Boolean(number >= 1),
-            Primitive::Byte => Value::from_low_bits(Numeric::Byte, number),
-            Primitive::Short => Value::from_low_bits(Numeric::Short, number),
-            Primitive::Char => Value::from_low_bits(Numeric::Char, number),
-            Primitive::Int => Value::from_low_bits(Numeric::Int, number),
-            Primitive::Long => Value::from_low_bits(Numeric::Long, number),
+        match of.numeric() {
+            Some(kind) => Value::from_low_bits(kind, number),
+            None => Value::Boolean(number >= 1),
         }
     }
 
@@ -125,16 +121,15 @@ impl Numeric {
         number.cast_unsigned() & self.mask()
     }
 
-    // A bit for each that a number of this type has.
+    // Ones in as many low bits as this type has.
     fn mask(self) -> u64
         ensures { λ r. ⌜ r ≡ 2 ^ width self - 1 ⌝ }
     {
         match self {
-            Numeric::Byte => 0xff,
-            Numeric::Short => 0xffff,
-            Numeric::Char => 0xffff,
-            Numeric::Int => 0xffff_ffff,
-            Numeric::Long => 0xffff_ffff_ffff_ffff,
+            Numeric::Byte => u64::from(u8::MAX),
+            Numeric::Short | Numeric::Char => u64::from(u16::MAX),
+            Numeric::Int => u64::from(u32::MAX),
+            Numeric::Long => u64::MAX,
         }
     }
 }

@@ -1,4 +1,4 @@
-use mathlib.Core.Path.{_≡_, sym, ap, _∙_}
+use mathlib.Core.Path.{_≡_, ap, _∙_}
 use Prim.Native.Nat.{ℕ, _*_, _/_, _%_, _^_}
 use native.Mathlib.Nat.{mod-eq-of-lt}
 use lib.Signed.{shrZ}
@@ -27,5 +27,5 @@ returns-in-Right c =
 pub returns-in-UnsignedRight : need.returns-in-UnsignedRight
 returns-in-UnsignedRight c =
     let fits : SFits w64 (c .args .a) = c .fits .a in
-    let filled : c .filled-with-zeros .result ≡ residue (width (c .args .kind)) (c .args .a) / 2 ^ c .args .distance = simp toZ-ofZ at (c .filled-with-zeros .ensures) in
+    let filled : c .unsigned-shift-right .result ≡ residue (width (c .args .kind)) (c .args .a) / 2 ^ c .args .distance = simp toZ-ofZ at (c .unsigned-shift-right .ensures) in
     rw (c .in-UnsignedRight .is) (read-again w64 _ _ (c .cast-signed .ensures ∙ ap (toZ w64) filled ∙ zeros-wrap (c .args .kind) (c .args .a) (c .args .distance)))

@@ -11,7 +11,7 @@ returns-in-Plus c =
 
 pub returns-in-Not : need.returns-in-Not
 returns-in-Not c =
-    let value : c .negation-type .result ≡ unary-type (c .args .self) (c .args .operand) = search needs in
+    let value : c .not-type .result ≡ unary-type (c .args .self) (c .args .operand) = search needs in
     record { value = value; exact = unary-exactly _ _ _ value }
 
 pub returns-in-Cast : need.returns-in-Cast

@@ -1,4 +1,4 @@
-use mathlib.Core.Path.{ap, sym}
+use mathlib.Core.Path.{ap}
 use mir.Syntax.{w8, w16, w32, w64}
 use Rattle.java.specs.declared.values.Value.the-variants as V
 use Rattle.java.specs.Values.{width}

@@ -3,13 +3,12 @@ use mathlib.Core.Path.{_≡_, ap, _∙_}
 use Prim.Native.Nat.{ℕ, _^_, _<_}
 use lib.IntN.{pos}
 use mir.Syntax.{w64}
-use mir.Val.{SFits, toZ}
-use Rattle.std.specs.shelf.Signed.{wrapped}
+use mir.Val.{SFits}
 use Rattle.std.proofs.shelf.Signed.{toZ-ofZ}
 use Rattle.java.specs.Values.{residue, width, value-of}
 use Rattle.java.specs.Results.{bitwise}
 use Rattle.java.proofs.Wrapping.{read-bits, value-of-wrapped}
-use Rattle.java.proofs.operators.Bitwise.at.Needs as need
+use Rattle.java.proofs.operators.Bitwise.apply_at.Needs as need
 
 pub returns : need.returns
 returns c =

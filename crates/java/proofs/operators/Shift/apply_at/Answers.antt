@@ -8,7 +8,7 @@ use Rattle.std.proofs.shelf.Signed.{toZ-ofZ}
 use Rattle.java.specs.Values.{value-of}
 use Rattle.java.specs.Results.{distance, shifted}
 use Rattle.java.proofs.Wrapping.{value-of-wrapped}
-use Rattle.java.proofs.operators.Shift.at.Needs as need
+use Rattle.java.proofs.operators.Shift.apply_at.Needs as need
 
 pub returns : need.returns
 returns c =

@@ -9,7 +9,7 @@ use Rattle.std.proofs.shelf.Signed.{toZ-ofZ}
 use Rattle.java.specs.Values.{value-of}
 use Rattle.java.specs.Results.{zero-divisor, arithmetic}
 use Rattle.java.proofs.Wrapping.{valued}
-use Rattle.java.proofs.operators.Arithmetic.at.Needs as need
+use Rattle.java.proofs.operators.Arithmetic.apply_at.Needs as need
 
 pub returns : need.returns
 returns c =

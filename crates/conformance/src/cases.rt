@@ -284,72 +284,49 @@ fn print_unary(rt: &LibcRuntime, operand: Value) -> io::Result<()> {
     Ok(())
 }
 
-fn print_binary(
-    rt: &LibcRuntime,
-    operators: &[Binary],
-    left: Value,
-    right: Value,
-) -> io::Result<()> {
+fn print_pair(rt: &LibcRuntime, operators: &[Binary], left: Value, right: Value) -> io::Result<()> {
     for &operator in operators {
-        println!(
-            rt,
-            "{}",
-            BinaryCase {
-                operator,
-                left,
-                right
-            }
-        )?;
+        let case = BinaryCase {
+            operator,
+            left,
+            right,
+        };
+        println!(rt, "{case}")?;
     }
     Ok(())
 }
 
 fn print_pairs(rt: &LibcRuntime, operators: &[Binary], pairs: &[(Value, Value)]) -> io::Result<()> {
     for &(left, right) in pairs {
-        print_binary(rt, operators, left, right)?;
+        print_pair(rt, operators, left, right)?;
     }
     Ok(())
 }
 
-pub fn print_unary_cases(rt: &LibcRuntime) -> io::Result<()> {
+fn print_unary_cases(rt: &LibcRuntime) -> io::Result<()> {
     for operand in UNARY_OPERANDS {
         print_unary(rt, operand)?;
     }
     Ok(())
 }
 
-pub fn print_arithmetic(rt: &LibcRuntime) -> io::Result<()> {
-    print_pairs(rt, &ARITHMETIC, &ARITHMETIC_OPERANDS)
-}
-
-pub fn print_shifts(rt: &LibcRuntime) -> io::Result<()> {
-    print_pairs(rt, &SHIFTS, &SHIFT_OPERANDS)
-}
-
-pub fn print_comparisons(rt: &LibcRuntime) -> io::Result<()> {
-    print_pairs(rt, &COMPARISONS, &COMPARISON_OPERANDS)
-}
-
-pub fn print_equalities(rt: &LibcRuntime) -> io::Result<()> {
-    print_pairs(rt, &EQUALITIES, &EQUALITY_OPERANDS)?;
-    print_pairs(rt, &EQUALITIES, &BOOLEAN_OPERANDS)
-}
-
-pub fn print_bitwise(rt: &LibcRuntime) -> io::Result<()> {
-    print_pairs(rt, &BITWISE, &BITWISE_OPERANDS)
-}
-
-pub fn print_logic(rt: &LibcRuntime) -> io::Result<()> {
-    print_pairs(rt, &BITWISE, &BOOLEAN_OPERANDS)?;
+fn print_not(rt: &LibcRuntime) -> io::Result<()> {
     for b in [false, true] {
-        println!(
-            rt,
-            "{}",
-            UnaryCase {
-                operator: Unary::Not,
-                operand: Value::Boolean(b)
-            }
-        )?;
+        let operand = Value::Boolean(b);
+        let operator = Unary::Not;
+        println!(rt, "{}", UnaryCase { operator, operand })?;
     }
     Ok(())
+}
+
+pub(crate) fn print_cases(rt: &LibcRuntime) -> io::Result<()> {
+    print_unary_cases(rt)?;
+    print_pairs(rt, &ARITHMETIC, &ARITHMETIC_OPERANDS)?;
+    print_pairs(rt, &SHIFTS, &SHIFT_OPERANDS)?;
+    print_pairs(rt, &COMPARISONS, &COMPARISON_OPERANDS)?;
+    print_pairs(rt, &EQUALITIES, &EQUALITY_OPERANDS)?;
+    print_pairs(rt, &EQUALITIES, &BOOLEAN_OPERANDS)?;
+    print_pairs(rt, &BITWISE, &BITWISE_OPERANDS)?;
+    print_pairs(rt, &BITWISE, &BOOLEAN_OPERANDS)?;
+    print_not(rt)
 }

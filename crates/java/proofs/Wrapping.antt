@@ -29,10 +29,12 @@ congruent-trans : (m : ℕ) (a b c : ℤ) → Congruent m a b → Congruent m b 
 congruent-trans m a b c (i, j, e) (k, l, f) = (i + k, j + l, omega (arith, ints))
 
 -- numbers that agree in some low bits agree in fewer
-fewer-bits : (j k : ℕ) (a b : ℤ) → Congruent (2 ^ (j + k)) a b → Congruent (2 ^ k) a b
-fewer-bits j k a b (h, i, e) =
-    let times : (n : ℕ) → n * 2 ^ j * 2 ^ k ≡ n * 2 ^ (j + k) = λ n. mul-assoc n (2 ^ j) (2 ^ k) ∙ ap (λ (m : ℕ). n * m) (sym (pow-add 2 j k)) in
-    (h * 2 ^ j, i * 2 ^ j, ap (λ (m : ℕ). a +ℤ pos m) (times h) ∙ e ∙ ap (λ (m : ℕ). b +ℤ pos m) (sym (times i)))
+fewer-bits : (k m : ℕ) (a b : ℤ) → k ≤ m → Congruent (2 ^ m) a b → Congruent (2 ^ k) a b
+fewer-bits k m a b h (i, j, e) =
+    let rest = m - k in
+    let sum : m ≡ rest + k = omega arith in
+    let times : (n : ℕ) → n * 2 ^ rest * 2 ^ k ≡ n * 2 ^ m = λ n. mul-assoc n (2 ^ rest) (2 ^ k) ∙ ap (λ (p : ℕ). n * p) (sym (pow-add 2 rest k) ∙ ap (λ (p : ℕ). 2 ^ p) (sym sum)) in
+    (i * 2 ^ rest, j * 2 ^ rest, ap (λ (n : ℕ). a +ℤ pos n) (times i) ∙ e ∙ ap (λ (n : ℕ). b +ℤ pos n) (sym (times j)))
 
 -- bits and the signed number that they are read as
 read-congruent : (w : Width) (n : ℕ) → n < 2 ^ bits w → Congruent (2 ^ bits w) (toZ w n) (pos n)
@@ -51,36 +53,36 @@ unfolding wrapped residue
 wrapped-only w z y f c = sym (wrapped-fits w y f) ∙ ap (toZ w) (residue-same (bits w) y z c)
 
 -- any low bits of a number are those of what is left of it at a width that has as many
-low-kept : (j k : ℕ) (w : Width) (z : ℤ) → bits w ≡ j + k → residue k (wrapped w z) ≡ residue k z
-low-kept j k w z e = residue-same k (wrapped w z) z (fewer-bits j k (wrapped w z) z (subst (λ (n : ℕ). Congruent (2 ^ n) (wrapped w z) z) e (wrapped-congruent w z)))
+low-kept : (k : ℕ) (w : Width) (z : ℤ) → k ≤ bits w → residue k (wrapped w z) ≡ residue k z
+low-kept k w z h = residue-same k (wrapped w z) z (fewer-bits k (bits w) (wrapped w z) z h (wrapped-congruent w z))
 
 -- the low bits of the bits n, and of a number's bits
-low-of-read : (j k : ℕ) (w : Width) (n : ℕ) → n < 2 ^ bits w → bits w ≡ j + k → residue k (toZ w n) ≡ n % 2 ^ k
+low-of-read : (k : ℕ) (w : Width) (n : ℕ) → n < 2 ^ bits w → k ≤ bits w → residue k (toZ w n) ≡ n % 2 ^ k
 unfolding residue
-low-of-read j k w n h e = residue-same k (toZ w n) (pos n) (fewer-bits j k (toZ w n) (pos n) (subst (λ (b : ℕ). Congruent (2 ^ b) (toZ w n) (pos n)) e (read-congruent w n h)))
+low-of-read k w n f h = residue-same k (toZ w n) (pos n) (fewer-bits k (bits w) (toZ w n) (pos n) h (read-congruent w n f))
 
-low-of-bits : (j k : ℕ) (w : Width) (z : ℤ) → SFits w z → bits w ≡ j + k → ofZ w z % 2 ^ k ≡ residue k z
-low-of-bits j k w z f e = sym (low-of-read j k w (ofZ w z) (laws.ofZ-fits w z f .fits) e) ∙ ap (residue k) (toZ-ofZ w z f)
+low-of-bits : (k : ℕ) (w : Width) (z : ℤ) → SFits w z → k ≤ bits w → ofZ w z % 2 ^ k ≡ residue k z
+low-of-bits k w z f h = sym (low-of-read k w (ofZ w z) (laws.ofZ-fits w z f .fits) h) ∙ ap (residue k) (toZ-ofZ w z f)
+
+-- a mask of k bits leaves the low k bits of a number
+pub masked : (k : ℕ) (w : Width) (z : ℤ) → SFits w z → k ≤ bits w → bitAnd (ofZ w z) (2 ^ k - 1) ≡ residue k z
+masked k w z f h = and-mask (ofZ w z) k ∙ low-of-bits k w z f h
+
+pub within-long : (n : Numeric) → width n ≤ 64
+within-long N.Byte = lit≤ tt
+within-long N.Short = lit≤ tt
+within-long N.Char = lit≤ tt
+within-long N.Int = lit≤ tt
+within-long N.Long = lit≤ tt
 
 -- to keep 64 bits on the way to a value changes nothing
 pub value-of-wrapped : (n : Numeric) (z : ℤ) → value-of n (wrapped w64 z) ≡ value-of n z
 unfolding wrapped residue
-value-of-wrapped N.Byte z = ap (λ (m : ℕ). V.Byte (toZ w8 m)) (low-kept 56 8 w64 z refl)
-value-of-wrapped N.Short z = ap (λ (m : ℕ). V.Short (toZ w16 m)) (low-kept 48 16 w64 z refl)
-value-of-wrapped N.Char z = ap V.Char (low-kept 48 16 w64 z refl)
-value-of-wrapped N.Int z = ap (λ (m : ℕ). V.Int (toZ w32 m)) (low-kept 32 32 w64 z refl)
-value-of-wrapped N.Long z = ap V.Long (wrapped-fits w64 (wrapped w64 z) (sfits-wrapped w64 z))
-
--- a mask of k bits leaves the low k bits of a number
-pub masked : (j k : ℕ) (w : Width) (z : ℤ) → SFits w z → bits w ≡ j + k → bitAnd (ofZ w z) (2 ^ k - 1) ≡ residue k z
-masked j k w z f e = and-mask (ofZ w z) k ∙ low-of-bits j k w z f e
-
-pub in-long : (n : Numeric) → 64 ≡ (64 - width n) + width n
-in-long N.Byte = refl
-in-long N.Short = refl
-in-long N.Char = refl
-in-long N.Int = refl
-in-long N.Long = refl
+value-of-wrapped N.Byte z = ap (λ (m : ℕ). V.Byte (toZ w8 m)) (low-kept 8 w64 z (lit≤ tt))
+value-of-wrapped N.Short z = ap (λ (m : ℕ). V.Short (toZ w16 m)) (low-kept 16 w64 z (lit≤ tt))
+value-of-wrapped N.Char z = ap V.Char (low-kept 16 w64 z (lit≤ tt))
+value-of-wrapped N.Int z = ap (λ (m : ℕ). V.Int (toZ w32 m)) (low-kept 32 w64 z (lit≤ tt))
+value-of-wrapped N.Long z = ap (λ (m : ℕ). V.Long (toZ w64 m)) (low-kept 64 w64 z (lit≤ tt))
 
 -- what is left of a number, as its bits are read again
 pub read-again : (w : Width) (r z : ℤ) → r ≡ wrapped w z → toZ w (ofZ w r) ≡ wrapped w z

@@ -12,8 +12,6 @@ use mir.Val.{SFits}
 use borrow.Author.Differences.{ints}
 use Rattle.std.specs.Options.{mapped, zipped}
 use Rattle.std.specs.declared.option.Option.the-variants.{Some}
-use Rattle.std.specs.Results.{isOk}
-use Rattle.std.specs.declared.result.Result.{Result}
 use Rattle.std.specs.declared.result.Result.the-variants.{Ok, Err}
 use Rattle.std.specs.shelf.Signed.{wrapped}
 use Rattle.std.proofs.shelf.Signed.{wrapped-fits}
@@ -25,7 +23,6 @@ use Rattle.java.specs.declared.values.Value.{Value}
 use Rattle.java.specs.declared.operators.Binary.the-variants as B
 use Rattle.java.specs.declared.operators.Arithmetic.{Arithmetic}
 use Rattle.java.specs.declared.operators.Arithmetic.the-variants as A
-use Rattle.java.specs.declared.results.NoValue.{NoValue}
 use Rattle.java.specs.declared.results.NoValue.the-variants.{Untyped, ZeroDivisor}
 use Rattle.java.specs.Types.{primitive, is-long, widest}
 use Rattle.java.specs.Values.{value-type, number, In-type, In-range, value-of}
@@ -34,7 +31,7 @@ use Rattle.java.specs.Results.{is-zero, arithmetic-at, binary-value}
 use Rattle.java.specs.Laws.{Divided-into, Divided}
 use Rattle.java.proofs.Division.{whole, whole-wraps, remainder-wraps, remainder-up, remainder-down, remainder-below}
 use Rattle.java.proofs.Ranges.{type-kept, wider}
-use Rattle.java.proofs.Rules.{numeric-of, Both-promoted, pair-seen, pair-least}
+use Rattle.java.proofs.Rules.{given, no-error, numeric-of, Both-promoted, pair-seen, pair-least}
 
 -- the signed width at which values of int and of long are kept
 Kept-at : Numeric → Width → Type 0
@@ -87,12 +84,6 @@ at l r n w kept left both range some q m is-q is-m =
       λ h. subst (λ (z : ℤ). z ≤ℤ pos 0) (sym nm) (remainder-down a b h),
       subst (λ (z : ℤ). natAbs z < natAbs b) (sym nm) (remainder-below a b some),
     )
-
-given : {x y : Value} → _≡_ {A = Result Value NoValue} (Ok x) (Ok y) → x ≡ y
-given e = cc
-
-no-error : (e : NoValue) (q : Value) → _≡_ {A = Result Value NoValue} (Err e) (Ok q) → ⊥
-no-error e q h = true≢false (ap isOk (sym h))
 
 pub divided : (l r : Value) → In-range l → Divided l r
 divided l r range q m quotient remainder = elim (pair-seen (value-type l) (value-type r)) [

@@ -9,6 +9,7 @@ use Rattle.java.specs.declared.results.NoValue.{NoValue}
 use Rattle.java.specs.Values.{In-range}
 use Rattle.java.specs.Results.{unary-value, binary-value}
 use Rattle.java.specs.Laws.{Cast-unique, Unary-typed, Widened, Unary-lawful, Binary-typed, Binary-lawful}
+use Rattle.java.proofs.Bits.{low-count, bit-by-bit}
 use Rattle.java.proofs.Comparing.{equivalence, strict-order}
 use Rattle.java.proofs.DivisionLaw.{divided}
 use Rattle.java.proofs.Ranges.{wrapped-unique}
@@ -28,4 +29,6 @@ binary-lawful o l r x range e = record {
   divided = divided l r range;
   equivalence = equivalence;
   strict-order = strict-order;
+  low-count = low-count;
+  bit-by-bit = bit-by-bit;
 }

@@ -1,3 +1,4 @@
+mod Bits
 mod Comparing
 mod Division
 mod DivisionLaw

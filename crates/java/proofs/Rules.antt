@@ -6,11 +6,16 @@ use mathlib.Core.Logic.{_⊎_, inl, inr}
 use Rattle.std.specs.Options.{isSome, mapped, zipped, andOther}
 use Rattle.std.specs.declared.option.Option.{Option}
 use Rattle.std.specs.declared.option.Option.the-variants.{Some, None}
+use Rattle.std.specs.Results.{isOk}
+use Rattle.std.specs.declared.result.Result.{Result}
+use Rattle.std.specs.declared.result.Result.the-variants.{Ok, Err}
 use Rattle.std.proofs.shelf.Tests.{true≢false, and-parts, or-cases, or-left, or-right, cases-bool}
 use Rattle.java.specs.declared.types.Primitive.{Primitive}
 use Rattle.java.specs.declared.types.Primitive.the-variants.{Boolean, Byte, Short, Char, Int, Long}
 use Rattle.java.specs.declared.types.Numeric.{Numeric}
 use Rattle.java.specs.declared.types.Numeric.the-variants as N
+use Rattle.java.specs.declared.values.Value.{Value}
+use Rattle.java.specs.declared.results.NoValue.{NoValue}
 use Rattle.java.specs.declared.operators.Unary.{Unary}
 use Rattle.java.specs.declared.operators.Unary.the-variants as U
 use Rattle.java.specs.declared.operators.Binary.{Binary}
@@ -39,6 +44,13 @@ numeric-of N.Long = refl
 pub something : {X : Type 0} (x : X) → Some x ≡ None → ⊥
 something x e = true≢false (ap isSome e)
 
+-- what stands in a result, and that an error is none
+pub given : {x y : Value} → _≡_ {A = Result Value NoValue} (Ok x) (Ok y) → x ≡ y
+given e = cc
+
+pub no-error : (e : NoValue) (v : Value) → _≡_ {A = Result Value NoValue} (Err e) (Ok v) → ⊥
+no-error e v h = true≢false (ap isOk (sym h))
+
 pub number-type : (a : Primitive) (m : Numeric) → a ≡ primitive m → Is-numeric a
 number-type a m e f = something m (sym (numeric-of m) ∙ ap numeric (sym e ∙ f))
 
@@ -52,13 +64,13 @@ pair-least a b m n e f =
     (subst (λ (y : Primitive). Least-above (primitive m ∷ y ∷ []) (primitive (widest (m ∷ n ∷ [])))) (sym f) (least-above (m ∷ n ∷ [])))
 
 -- an operand is promoted if it is numeric, and two are if both are
-abbrev One-promoted : Primitive → Type 0
+abbrev pub One-promoted : Primitive → Type 0
 One-promoted a = (m : Numeric) × (a ≡ primitive m) × (promoted a ≡ Some (widest (m ∷ [])))
 
 abbrev pub Both-promoted : Primitive → Primitive → Type 0
 Both-promoted a b = (m : Numeric) × (n : Numeric) × (a ≡ primitive m) × (b ≡ primitive n) × (promoted-pair a b ≡ Some (widest (m ∷ n ∷ [])))
 
-one-seen : (a : Primitive) → ((promoted a ≡ None) × (Is-numeric a → ⊥)) ⊎ One-promoted a
+pub one-seen : (a : Primitive) → ((promoted a ≡ None) × (Is-numeric a → ⊥)) ⊎ One-promoted a
 one-seen a = elim (seen a) [
   | inl e ↦ inl (ap promoted e, λ h. h e)
   | inr s ↦ inr (s .0, s .1, ap (mapped (λ m. widest (m ∷ []))) (ap numeric (s .1) ∙ numeric-of (s .0)))

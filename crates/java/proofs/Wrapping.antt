@@ -29,7 +29,7 @@ congruent-trans : (m : ℕ) (a b c : ℤ) → Congruent m a b → Congruent m b 
 congruent-trans m a b c (i, j, e) (k, l, f) = (i + k, j + l, omega (arith, ints))
 
 -- numbers that agree in some low bits agree in fewer
-fewer-bits : (k m : ℕ) (a b : ℤ) → k ≤ m → Congruent (2 ^ m) a b → Congruent (2 ^ k) a b
+pub fewer-bits : (k m : ℕ) (a b : ℤ) → k ≤ m → Congruent (2 ^ m) a b → Congruent (2 ^ k) a b
 fewer-bits k m a b h (i, j, e) =
     let rest = m - k in
     let sum : m ≡ rest + k = omega arith in

@@ -1,8 +1,9 @@
 -- What holds of all values and operators, beyond the definitions that compute them.
 use mathlib.Core.Path.{_≡_}
-use mathlib.Core.Bool.{Bool, true}
+use mathlib.Core.Bool.{Bool, true, not, cond}
 use mathlib.Core.Logic.{_⊎_}
-use Prim.Native.Nat.{ℕ, _*_, _^_, _<_}
+use Prim.Native.Nat.{ℕ, suc, _*_, _/_, _^_, _<_}
+use lib.Dec.{eqb}
 use lib.IntN.{ℤ, pos, negℤ, natAbs, _+ℤ_, _*ℤ_}
 use lib.Signed.{_≤ℤ_, _<ℤ_}
 use mir.Syntax.{Width}
@@ -13,6 +14,7 @@ use Rattle.std.specs.declared.option.Option.the-variants.{Some, None}
 use Rattle.std.specs.declared.result.Result.{Result}
 use Rattle.std.specs.declared.result.Result.the-variants.{Ok, Err}
 use Rattle.java.specs.declared.types.Primitive.{Primitive}
+use Rattle.java.specs.declared.types.Primitive.the-variants as P
 use Rattle.java.specs.declared.types.Numeric.{Numeric}
 use Rattle.java.specs.declared.values.Value.{Value}
 use Rattle.java.specs.declared.values.Value.the-variants as V
@@ -21,15 +23,17 @@ use Rattle.java.specs.declared.operators.Unary.the-variants as U
 use Rattle.java.specs.declared.operators.Binary.{Binary}
 use Rattle.java.specs.declared.operators.Binary.the-variants as B
 use Rattle.java.specs.declared.operators.Arithmetic.the-variants as A
+use Rattle.java.specs.declared.operators.Shift.{Shift}
 use Rattle.java.specs.declared.operators.Comparison.the-variants as C
 use Rattle.java.specs.declared.operators.Equality.the-variants as E
+use Rattle.java.specs.declared.operators.Bitwise.{Bitwise}
 use Rattle.java.specs.declared.results.NoValue.{NoValue}
 use Rattle.java.specs.declared.results.NoValue.the-variants.{Untyped, ZeroDivisor}
 use Rattle.java.specs.Types.{primitive}
-use Rattle.java.specs.Subtypes.{_≼_}
-use Rattle.java.specs.Values.{value-type, number, In-type, In-range, width}
+use Rattle.java.specs.Subtypes.{_≼_, same-type}
+use Rattle.java.specs.Values.{value-type, number, In-type, In-range, residue, width}
 use Rattle.java.specs.Typing.{Is-numeric, Unary-rule, Binary-rule}
-use Rattle.java.specs.Results.{binary-value}
+use Rattle.java.specs.Results.{logical, binary-value}
 
 -- a and b differ by a multiple of m
 abbrev pub Congruent : ℕ → ℤ → ℤ → Type 0
@@ -95,13 +99,31 @@ pub record Equivalence : Type 0 where
   pub reflexive : (v : Value) → Gives (B.Equality E.Equal) v v true
   pub symmetric : (v w : Value) (b : Bool) → Gives (B.Equality E.Equal) v w b → Gives (B.Equality E.Equal) w v b
   pub transitive : (u v w : Value) (b : Bool) → Gives (B.Equality E.Equal) u v true → Gives (B.Equality E.Equal) v w true → Gives (B.Equality E.Equal) u w b → b ≡ true
+  pub unequal : (v w : Value) (b : Bool) → Gives (B.Equality E.NotEqual) v w b → Gives (B.Equality E.Equal) v w (not b)
 
--- < is a strict order, that of the numbers, wherever it has a type, and total on the numbers of numeric values
+-- < is a strict order, that of the numbers, wherever it has a type, and total on the numbers of numeric values; the
+-- other three go by it
 pub record Strict-order : Type 0 where
   pub numbers : (v w : Value) (b : Bool) → Gives (B.Comparison C.Less) v w b → (b ≡ true → number v <ℤ number w) × (number v <ℤ number w → b ≡ true)
   pub irreflexive : (v : Value) → Gives (B.Comparison C.Less) v v true → ⊥
   pub transitive : (u v w : Value) → Gives (B.Comparison C.Less) u v true → Gives (B.Comparison C.Less) v w true → Gives (B.Comparison C.Less) u w true
   pub total : (v w : Value) → Is-numeric (value-type v) → Is-numeric (value-type w) → Gives (B.Comparison C.Less) v w true ⊎ (number v ≡ number w) ⊎ Gives (B.Comparison C.Less) w v true
+  pub greater : (v w : Value) (b : Bool) → Gives (B.Comparison C.Greater) v w b → Gives (B.Comparison C.Less) w v b
+  pub at-most : (v w : Value) (b : Bool) → Gives (B.Comparison C.LessOrEqual) v w b → Gives (B.Comparison C.Less) w v (not b)
+  pub at-least : (v w : Value) (b : Bool) → Gives (B.Comparison C.GreaterOrEqual) v w b → Gives (B.Comparison C.Less) v w (not b)
+
+-- a shift goes by its count modulo 64 where the left operand is long, and modulo 32 otherwise: counts that differ by a
+-- multiple of that, of whatever numeric types, move alike
+abbrev pub Low-count : Type 0
+Low-count = (o : Shift) (l r s : Value) → Is-numeric (value-type r) → Is-numeric (value-type s) → Congruent (cond (same-type (value-type l) P.Long) 64 32) (number r) (number s) → binary-value (B.Shift o) l r ≡ binary-value (B.Shift o) l s
+
+-- whether bit i of a number in two's complement is one: the highest of its low i + 1 bits
+abbrev pub has-bit : ℕ → ℤ → Bool
+has-bit i z = eqb (residue (suc i) z / 2 ^ i) 1
+
+-- & ^ | do with each bit of two numbers what they do with two booleans
+abbrev pub Bit-by-bit : Type 0
+Bit-by-bit = (o : Bitwise) (l r w : Value) (n : Numeric) → value-type w ≡ primitive n → binary-value (B.Bitwise o) l r ≡ Ok w → (i : ℕ) → i < width n → has-bit i (number w) ≡ logical o (has-bit i (number l)) (has-bit i (number r))
 
 -- all that holds of a unary operator o, which gave r on v
 pub record Unary-lawful (o : Unary) (v : Value) (r : Option Value) : Type 0 where
@@ -116,3 +138,5 @@ pub record Binary-lawful (o : Binary) (l r : Value) (x : Result Value NoValue) :
   pub divided : Divided l r
   pub equivalence : Equivalence
   pub strict-order : Strict-order
+  pub low-count : Low-count
+  pub bit-by-bit : Bit-by-bit

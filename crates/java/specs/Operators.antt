@@ -1,4 +1,4 @@
--- The operators: the code of each in stored data, and its sign in Java.
+-- The operators: the code of each in stored data, and its symbol in Java.
 use mathlib.Core.Bool.{cond}
 use mathlib.Core.List.{List}
 use Prim.Native.Nat.{ℕ, _+_}

@@ -1,4 +1,4 @@
-// The operators, those of two operands grouped by the rule that types them, each with its sign and with the code that
+// The operators, those of two operands grouped by the rule that types them, each with its symbol and with the code that
 // stands for it in stored data.
 ghost use mathlib.Core.Path.{_≡_};
 ghost use Rattle.std.specs.declared.option.Option.the-variants.{Some};

@@ -1,4 +1,6 @@
 // Admission: the rules of names, types and assignment over a script of good form, and the script that keeps them all.
+#![tactic(auto)]
+
 mod labels;
 mod latest;
 mod scopes;

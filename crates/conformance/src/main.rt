@@ -1,5 +1,7 @@
 // Worked cases of Java's operators: prints each with what the operators of the crate `java` give, for comparison with
 // Java.
+#![tactic(auto)]
+
 mod cases;
 mod lines;
 

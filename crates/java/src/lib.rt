@@ -1,4 +1,6 @@
 // What Java says of its primitive types, their values and the operators on them.
+#![tactic(auto)]
+
 mod operators;
 mod results;
 mod types;

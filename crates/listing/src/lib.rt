@@ -1,4 +1,6 @@
 // A script as text for people: its listing, or the refusal of its file in words.
+#![tactic(auto)]
+
 mod lines;
 mod names;
 mod texts;

@@ -1,4 +1,6 @@
 // The operator's companion: `observe show FILE` reads a script file and lists it, or says where its fault begins.
+#![tactic(auto)]
+
 mod command;
 mod show;
 #[cfg(test)]

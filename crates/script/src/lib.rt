@@ -1,4 +1,6 @@
 // A script as data: the four sorts of number, the kinds of node, and the nodes. Files are not known here, nor whether a script makes sense.
+#![tactic(auto)]
+
 mod children;
 mod construct;
 mod kind;

@@ -1,4 +1,6 @@
 // Script files: the format and its reading. Whether a script makes sense is not known here.
+#![tactic(auto)]
+
 mod fault;
 mod file;
 mod parts;

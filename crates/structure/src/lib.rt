@@ -1,4 +1,6 @@
 // The form of a script: whether each node is a construct, and whether the nodes hang together as constructs do.
+#![tactic(auto)]
+
 mod constructs;
 mod formed;
 mod shapes;

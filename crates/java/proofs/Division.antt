@@ -1,5 +1,5 @@
 -- Quotients and remainders of whole numbers, by their sizes.
-use Rattle.std.proofs.Common.{◌≡◌, ℕ, zero, suc, ◌+◌, ◌*◌, ◌/◌, ◌%◌, ◌^◌, ◌<◌, ◌≤◌, ℤ, pos, negsuc, ◌+ℤ◌, ◌*ℤ◌, neg_ℤ, nat_abs, ◌≤ℤ◌, sym, refl, ap, ◌∙◌, subst, mod-lt, div-add-mod', div-le_self, arith, SFits, to_z, of_z}
+use Rattle.std.proofs.Common.{◌≡◌, ℕ, zero, suc, ◌*◌, ◌/◌, ◌%◌, ◌^◌, ◌<◌, ◌≤◌, ℤ, pos, negsuc, ◌+ℤ◌, ◌*ℤ◌, neg_ℤ, nat_abs, ◌≤ℤ◌, sym, refl, ap, ◌∙◌, subst, mod-lt, div-add-mod', div-le_self, arith, SFits, to_z, of_z}
 use native.Mathlib.Nat.{zero-mod}
 use lib.IntN.{zero-*ℤ, neg_ℤ-neg_ℤ, neg_ℤ-+ℤ}
 use lib.Signed.{quot_z, rem_z, mag_rem, nat_abs-le}

@@ -1,5 +1,5 @@
 -- Shifts of a number's bits, as shifts of the number.
-use Rattle.std.proofs.Common.{◌≡◌, ℕ, ◌-◌, ◌*◌, ◌/◌, ◌%◌, ◌^◌, ◌<◌, ◌≤◌, Bool, true, false, cond, ℤ, pos, ◌*ℤ◌, sym, ap, ◌∙◌, arith, lit≤, pow_mono, w64, SFits, to_z, of_z}
+use Rattle.std.proofs.Common.{◌≡◌, ℕ, ◌*◌, ◌/◌, ◌%◌, ◌^◌, ◌<◌, ◌≤◌, Bool, true, false, cond, ℤ, pos, ◌*ℤ◌, sym, ap, ◌∙◌, arith, lit≤, pow_mono, w64, SFits, to_z, of_z}
 use lib.Signed.{shr_z, mag_shr}
 use mir.Syntax.{Width}
 use mir.Val.{bits}

@@ -5,12 +5,12 @@ use Rattle.java.proofs.operators.Binary.result_type.Goals as goal
 
 pub returns-in-Arithmetic : goal.returns-in-Arithmetic
 returns-in-Arithmetic c =
-    let value : c.arithmetic-type.result ≡ binary_type c.args.self c.args.left c.args.right = search rules in
+    let value : c.arithmetic_type.result ≡ binary_type c.args.self c.args.left c.args.right = search rules in
     record { value = value; exact = binary_exactly _ _ _ _ value }
 
 pub returns-in-Shift : goal.returns-in-Shift
 returns-in-Shift c =
-    let value : c.shift-type.result ≡ binary_type c.args.self c.args.left c.args.right = search rules in
+    let value : c.shift_type.result ≡ binary_type c.args.self c.args.left c.args.right = search rules in
     record { value = value; exact = binary_exactly _ _ _ _ value }
 
 pub returns-in-Comparison : goal.returns-in-Comparison

@@ -13,5 +13,5 @@ returns c =
     let fits : SFits w64 c.number-number.result = search rules in
     let far : c.distance.result ≡ distance c.args.kind c.args.count = simp to_z-of_z at c.distance.ensures.value in
     let number : c.number-number.result ≡ int_wrap w64 (shifted c.args.self c.args.kind c.args.a c.distance.result) = simp to_z-of_z at c.number-number.ensures in
-    let value : c.from-low-bits.result ≡ value_of c.args.kind c.number-number.result = simp to_z-of_z at c.from-low-bits.ensures in
+    let value : c.from_low_bits.result ≡ value_of c.args.kind c.number-number.result = simp to_z-of_z at c.from_low_bits.ensures in
     value ∙ ap (value_of c.args.kind) (number ∙ ap (λ (d : ℕ). int_wrap w64 (shifted c.args.self c.args.kind c.args.a d)) far) ∙ value_of_wrapped c.args.kind _

@@ -5,7 +5,7 @@ use Rattle.java.proofs.operators.Unary.result_type.Goals as goal
 
 pub returns-in-Plus : goal.returns-in-Plus
 returns-in-Plus c =
-    let value : c.promoted-type.result ≡ unary_type c.args.self c.args.operand = search rules in
+    let value : c.promoted_type.result ≡ unary_type c.args.self c.args.operand = search rules in
     record { value = value; exact = unary_exactly _ _ _ value }
 
 pub returns-in-Not : goal.returns-in-Not

@@ -7,7 +7,7 @@ use Rattle.java.proofs.values.Value.new.Goals as goal
 pub returns-then-number-greatest : goal.returns-then-number-greatest
 returns-then-number-greatest c =
     let fits : SFits w64 c.args.number = c.ranges.number in
-    let made : c.with-number.result ≡ value_with c.args.of c.args.number = simp to_z-of_z at c.with-number.ensures in
+    let made : c.with_number.result ≡ value_with c.args.of c.args.number = simp to_z-of_z at c.with_number.ensures in
     let range : InType c.args.of c.args.number = search rules in
-    let value : Some c.with-number.result ≡ new_value c.args.of c.args.number = search rules in
+    let value : Some c.with_number.result ≡ new_value c.args.of c.args.number = search rules in
     record { value = value; exact = constructed _ _ _ made range }

@@ -5,4 +5,4 @@ use Rattle.script.proofs.table.Table.end.Goals as goal
 
 pub returns : goal.returns
 unfolding end
-returns c = ap (λ (n : Node). n.end.0) c.node-at.ensures
+returns c = ap (λ (n : Node). n.end.0) c.node_at.ensures

@@ -6,4 +6,4 @@ use Rattle.script.proofs.table.Table.meaning.Goals as goal
 pub returns : goal.returns
 unfolding meaning
 returns c =
-    c.construct.ensures ∙ ap (construct_of (length c.args.self.now.types.now) c.args.self.now.labels) c.node-at.ensures
+    c.construct.ensures ∙ ap (construct_of (length c.args.self.now.types.now) c.args.self.now.labels) c.node_at.ensures

@@ -5,4 +5,4 @@ use Rattle.script.proofs.table.Table.up.Goals as goal
 
 pub returns : goal.returns
 unfolding up
-returns c = ap (λ (n : Node). n.up.0) c.node-at.ensures
+returns c = ap (λ (n : Node). n.up.0) c.node_at.ensures

@@ -1,5 +1,5 @@
 -- A construct that a node stands for names only what its script has.
-use Rattle.std.proofs.Common.{◌≡◌, ℕ, ◌<◌, Bool, true, false, cond, ◌&&◌, eqb, ltb, length, ℤ, pos, negsuc, Some, None, Option, unwrap_or, sym, refl, subst, arith}
+use Rattle.std.proofs.Common.{◌≡◌, ℕ, ◌<◌, Bool, true, false, cond, ◌&&◌, eqb, ltb, length, ℤ, pos, negsuc, Some, None, Option, unwrap_or, refl, subst, arith}
 use Rattle.std.specs.Option.{option_map}
 use Rattle.std.proofs.lemmas.Bool.{ltb-true}
 use Rattle.java.specs.declared.types.Primitive.{Primitive}

@@ -1,7 +1,6 @@
 -- A script by its places: what a table holds, and what stands at each place.
-use Rattle.std.specs.Prelude.{ℕ, Bool, cond, ◌&&◌, ◌||◌, List, [], ◌∷◌, length, pos, Ok, Err, Option, Result, nat_lt, slice_index_or}
+use Rattle.std.specs.Prelude.{ℕ, Bool, cond, ◌||◌, [], ◌∷◌, length, pos, Ok, Err, Option, Result, nat_lt, slice_index_or}
 use Rattle.std.specs.Option.{unwrap_or}
-use Rattle.java.specs.declared.types.Primitive.{Primitive}
 use Rattle.script.specs.declared.construct.Construct.{Construct}
 use Rattle.script.specs.declared.construct.Construct.TheVariants.{Empty}
 use Rattle.script.specs.declared.node.Node.{Node}

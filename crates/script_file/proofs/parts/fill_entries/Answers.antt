@@ -9,12 +9,12 @@ loop-i-init g c =
     let all = rest_all (g.E.Entry.found c.args.bytes.now) g.E.Entry.width c.args.first c.args.n in
     (sym (after_none _ ∙ all), refl)
 
-pub overflow-mul-i : goal.overflow-mul-i
-overflow-mul-i g c =
+pub overflow_mul-i : goal.overflow_mul-i
+overflow_mul-i g c =
     omega (arith, inside c.args.first c.loop-i.i c.args.n c.size.result g.E.Entry.width 65536 c.size.ensures c.loop-i-test.true c.requires.short)
 
-pub overflow-add-first : goal.overflow-add-first
-overflow-add-first g c =
+pub overflow_add-first : goal.overflow_add-first
+overflow_add-first g c =
     omega (arith, inside c.args.first c.loop-i.i c.args.n c.size.result g.E.Entry.width 65536 c.size.ensures c.loop-i-test.true c.requires.short)
 
 pub unreachable-requires : goal.unreachable-requires

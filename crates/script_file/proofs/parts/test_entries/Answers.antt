@@ -8,20 +8,20 @@ pub loop-i-init : goal.loop-i-init
 loop-i-init g c =
     ap tested (sym (rest_all (g.E.Entry.found c.args.bytes.now) g.E.Entry.width c.args.first c.args.n))
 
-pub overflow-mul-i : goal.overflow-mul-i
-overflow-mul-i g c =
+pub overflow_mul-i : goal.overflow_mul-i
+overflow_mul-i g c =
     omega (arith, inside c.args.first c.loop-i.i c.args.n c.size.result g.E.Entry.width 65536 c.size.ensures c.loop-i-test.true c.requires)
 
-pub overflow-add-first : goal.overflow-add-first
-overflow-add-first g c =
+pub overflow_add-first : goal.overflow_add-first
+overflow_add-first g c =
     omega (arith, inside c.args.first c.loop-i.i c.args.n c.size.result g.E.Entry.width 65536 c.size.ensures c.loop-i-test.true c.requires)
 
-pub returns-in-err-at : goal.returns-in-err-at
-returns-in-err-at g c =
+pub returns-in_err-at : goal.returns-in_err-at
+returns-in_err-at g c =
     let at = g.E.Entry.found c.args.bytes.now in
     let width = g.E.Entry.width in
-    let p = err_from_is_err_and c.from-residual.result c.from-residual.ensures.1 in
-    let wrong = sym (c.at.ensures ∙ ap (λ s. at (c.args.first + c.loop-i.i * s)) c.size.ensures) ∙ c.in-err-at.was in
+    let p = err_from_is_err_and c.from_residual.result c.from_residual.ensures.1 in
+    let wrong = sym (c.at.ensures ∙ ap (λ s. at (c.args.first + c.loop-i.i * s)) c.size.ensures) ∙ c.in_err-at.was in
     let all = c.loop-i.invariant ∙ ap tested (rest_wrong at width c.args.first c.args.n c.loop-i.i _ c.loop-i-test.true wrong) in
     p.1 ∙ ap (λ e. Err e) p.2 ∙ sym all
 
@@ -29,7 +29,7 @@ pub loop-i-preserved : goal.loop-i-preserved
 loop-i-preserved g c =
     let at = g.E.Entry.found c.args.bytes.now in
     let width = g.E.Entry.width in
-    let right = sym (c.at.ensures ∙ ap (λ s. at (c.args.first + c.loop-i.i * s)) c.size.ensures) ∙ c.in-ok-at.was in
+    let right = sym (c.at.ensures ∙ ap (λ s. at (c.args.first + c.loop-i.i * s)) c.size.ensures) ∙ c.in_ok-at.was in
     c.loop-i.invariant ∙ tested_more at width c.args.first c.args.n c.loop-i.i _ c.loop-i-test.true right
 
 pub returns : goal.returns

@@ -1,4 +1,4 @@
-use Rattle.std.proofs.Common.{Option, unwrap_or, ap, ◌∙◌}
+use Rattle.std.proofs.Common.{Option, unwrap_or, ap}
 use Rattle.script.specs.declared.construct.Construct.{Construct}
 use Rattle.script.specs.declared.construct.Construct.TheVariants.{Empty}
 use Rattle.script.specs.Tables.{construct}

@@ -1,4 +1,4 @@
-use Rattle.std.proofs.Common.{sym, rules}
+use Rattle.std.proofs.Common.{sym}
 use Rattle.std.proofs.lemmas.List.{get_or_past}
 use Rattle.script.specs.Tables.{blank, node}
 use Rattle.script.proofs.table.Table.node_at.Goals as goal

@@ -35,8 +35,8 @@ pub fn deciding_bytes() -> usize
 
 // Tests a section of entries behind their count, and answers the count.
 fn section_at<E: Entry>(bytes: &[u8], at: u16, least: u16, most: u16) -> Result<u16, FileFault>
-    requires { at + 2 + most * width < 2 ^ 16 }
-    ensures value { result ≡ mapped length (section bytes.now found width at least most) }
+    requires { at + 2 + most * E.width < 2 ^ 16 }
+    ensures value { result ≡ mapped length (section bytes.now E.found E.width at least most) }
     ensures limits { IfOk result (λ n. (least ≤ n) × (n ≤ most)) }
 {
     let n = count_at(bytes, at, least, most)?;

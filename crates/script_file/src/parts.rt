@@ -97,8 +97,8 @@ impl Entry for Node {
 
 // Tests that so many entries follow each other from an offset on.
 pub(crate) fn test_entries<E: Entry>(bytes: &[u8], first: u16, n: u16) -> Result<(), FileFault>
-    requires { first + n * width < 2 ^ 16 }
-    ensures { result ≡ tested (entries (found bytes.now) width first n) }
+    requires { first + n * E.width < 2 ^ 16 }
+    ensures { result ≡ tested (entries (E.found bytes.now) E.width first n) }
 {
     for i in 0..n {
         let _ = E::at(bytes, first + i * E::size())?;
@@ -109,9 +109,9 @@ pub(crate) fn test_entries<E: Entry>(bytes: &[u8], first: u16, n: u16) -> Result
 // Writes so many entries to the front of a table; they have been tested.
 pub(crate) fn fill_entries<E: Entry>(bytes: &[u8], first: u16, n: u16, table: &mut [E])
     requires room { n ≤ length table.old }
-    requires short { first + n * width < 2 ^ 16 }
-    requires right { is_ok (entries (found bytes.now) width first n) ≡ true }
-    ensures written { entries (found bytes.now) width first n ≡ Ok (take n table.new) }
+    requires short { first + n * E.width < 2 ^ 16 }
+    requires right { is_ok (entries (E.found bytes.now) E.width first n) ≡ true }
+    ensures written { entries (E.found bytes.now) E.width first n ≡ Ok (take n table.new) }
     ensures rest { drop n table.new ≡ drop n table.old }
 {
     for i in 0..n {

@@ -19,6 +19,6 @@ returns-then-node-at c =
     let high : c.loop-node.at ≤ parent c.args.nodes.now c.loop-node.at = omega arith in
     omega (arith, depth_top c.args.nodes.now c.loop-node.at (inr high))
 
-pub returns-in-default : goal.returns-in-default
-returns-in-default c =
-    omega (arith, depth_top c.args.nodes.now c.loop-node.at (inl c.in-default.ensures.lookup.3))
+pub returns-in_default : goal.returns-in_default
+returns-in_default c =
+    omega (arith, depth_top c.args.nodes.now c.loop-node.at (inl c.in_default.ensures.lookup.3))

@@ -1,6 +1,6 @@
 -- The test of a subtype answers yes exactly where the relation holds.
 use Rattle.std.proofs.Common.{◌≡◌, ℕ, ◌<◌, Bool, true, false, cond, ◌⊎◌, List, [], ◌∷◌, map, Some, sym, refl, ap, ◌∙◌, subst, inl, inr, ⊎_elim, arith, lit≤}
-use Rattle.std.specs.List.{AllByRecursion as All}
+use Rattle.std.specs.List.{AllByRecursion}
 use Rattle.std.proofs.lemmas.Bool.{eqb-true, or_cases, or_right, false≢true}
 use Rattle.java.specs.declared.types.Primitive.{Primitive}
 use Rattle.java.specs.declared.types.Primitive.TheVariants.{Boolean, Byte, Short, Char, Int, Long}
@@ -43,14 +43,14 @@ one_type a b e =
     let same : Some a ≡ Some b = sym (code_of a) ∙ ap type_of (eqb-true _ _ e) ∙ code_of b in
     cc
 
-member : (a : Primitive) (ss : List Primitive) (b : Primitive) → All (λ s. a ≼ s) ss → among ss b ≡ true → a ≼ b
+member : (a : Primitive) (ss : List Primitive) (b : Primitive) → AllByRecursion (λ s. a ≼ s) ss → among ss b ≡ true → a ≼ b
 member a [] b h e = absurd (false≢true e)
 member a (s ∷ ss) b h e = ⊎_elim
     (λ here. subst (λ (t : Primitive). a ≼ t) (one_type s b here) h.0)
     (λ later. member a ss b h.1 later)
     (or_cases (same_type s b) (among ss b) e)
 
-reached : (a : Primitive) → All (λ s. a ≼ s) (supertypes a)
+reached : (a : Primitive) → AllByRecursion (λ s. a ≼ s) (supertypes a)
 reached Boolean = (itself, tt)
 reached Byte = (itself, (byte_short, (chained byte_short short_int, (chained byte_short (chained short_int int_long), tt))))
 reached Short = (itself, (short_int, (chained short_int int_long, tt)))
@@ -84,19 +84,19 @@ is_widest N.Char e = absurd (false≢true e)
 is_widest N.Int e = absurd (false≢true e)
 is_widest N.Long e = refl
 
-all_below_long : (ns : List Numeric) → All (λ t. t ≼ Long) (map primitive ns)
+all_below_long : (ns : List Numeric) → AllByRecursion (λ t. t ≼ Long) (map primitive ns)
 all_below_long [] = tt
 all_below_long (n ∷ ns) = (below_long n, all_below_long ns)
 
-above_each : (ns : List Numeric) → All (λ t. t ≼ primitive (widest ns)) (Int ∷ map primitive ns)
+above_each : (ns : List Numeric) → AllByRecursion (λ t. t ≼ primitive (widest ns)) (Int ∷ map primitive ns)
 above_each [] = (itself, tt)
 above_each (n ∷ ns) = by (is_long n) refl (above_each ns)
   where
-    by : (t : Bool) → is_long n ≡ t → All (λ s. s ≼ primitive (widest ns)) (Int ∷ map primitive ns) → All (λ s. s ≼ primitive (cond t N.Long (widest ns))) (Int ∷ primitive n ∷ map primitive ns)
+    by : (t : Bool) → is_long n ≡ t → AllByRecursion (λ s. s ≼ primitive (widest ns)) (Int ∷ map primitive ns) → AllByRecursion (λ s. s ≼ primitive (cond t N.Long (widest ns))) (Int ∷ primitive n ∷ map primitive ns)
     by true e h = (int_long, (below_long n, all_below_long ns))
     by false e h = (h.0, (chained (below_int n e) h.0, h.1))
 
-below_others : (ns : List Numeric) (u : Primitive) → All (λ t. t ≼ u) (Int ∷ map primitive ns) → primitive (widest ns) ≼ u
+below_others : (ns : List Numeric) (u : Primitive) → AllByRecursion (λ t. t ≼ u) (Int ∷ map primitive ns) → primitive (widest ns) ≼ u
 below_others [] u h = h.0
 below_others (n ∷ ns) u h = by (is_long n) refl (below_others ns u (h.0, h.1.1))
   where

@@ -1,6 +1,6 @@
 -- The subtypes: A ≼ B where each number of A is one of B, and both are numeric or both boolean.
 use Rattle.std.specs.Prelude.{Bool, false, ◌||◌, List, [], ◌∷◌, ◌==◌}
-use Rattle.std.specs.List.{AllByRecursion as All}
+use Rattle.std.specs.List.{AllByRecursion}
 use Rattle.java.specs.declared.types.Primitive.{Primitive}
 use Rattle.java.specs.declared.types.Primitive.TheVariants.{Boolean, Byte, Short, Char, Int, Long}
 use Rattle.java.specs.Types.{type_code}
@@ -17,7 +17,7 @@ pub data ◌≼◌ : Primitive → Primitive → Type 0 where
 
 -- the least type at or above int and each of some types
 abbrev pub LeastAbove : List Primitive → Primitive → Type 0
-LeastAbove ts r = All (λ t. t ≼ r) (Int ∷ ts) × ((u : Primitive) → All (λ t. t ≼ u) (Int ∷ ts) → r ≼ u)
+LeastAbove ts r = AllByRecursion (λ t. t ≼ r) (Int ∷ ts) × ((u : Primitive) → AllByRecursion (λ t. t ≼ u) (Int ∷ ts) → r ≼ u)
 
 -- whether the two are one type
 abbrev pub same_type : Primitive → Primitive → Bool

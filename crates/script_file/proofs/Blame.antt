@@ -2,7 +2,7 @@
 use Rattle.std.proofs.Common.{◌≡◌, ℕ, zero, suc, ◌+◌, ◌*◌, ◌<◌, ◌≤◌, ◌||◌, ltb, ◌⊎◌, List, [], ◌∷◌, ◌++◌, length, get_or, take, Some, None, Ok, Err, Option, Result, sym, refl, ap, ◌∙◌, subst, inl, inr, suc-mul, zero-mul, arith}
 use Rattle.std.proofs.lemmas.Bool.{ltb-false, ltb-true}
 use Rattle.std.specs.Option.{ok_or}
-use Rattle.std.specs.List.{flat_map, AllByRecursion as All}
+use Rattle.std.specs.List.{flat_map, AllByRecursion}
 use Rattle.java.specs.declared.types.Primitive.{Primitive}
 use Rattle.java.specs.Types.{type_of}
 use Rattle.script_file.specs.declared.fault.FileFault.{FileFault}
@@ -228,7 +228,7 @@ module _ (types nodes : ℕ) (bs : List ℕ) where
 
         -- so many nodes that are right
         pub nodes_there : (n i : ℕ) {ys : List Node} → count_at bs (4 + length xs) 1 1024 ≡ Ok n → entries (node_at bs) 14 (4 + length xs + 2) i ≡ Ok ys
-            → (count_front bs xs few labels n ++ flat_map node_bytes ys ≡ take (6 + length xs + i * 14) bs) × (6 + length xs + i * 14 ≤ length bs) × All NodeFits ys
+            → (count_front bs xs few labels n ++ flat_map node_bytes ys ≡ take (6 + length xs + i * 14) bs) × (6 + length xs + i * 14 ≤ length bs) × AllByRecursion NodeFits ys
         nodes_there n i c e =
             let k = count_parts bs bytes (4 + length xs) 1 1024 c in
             let stand = entries_stand bs node_at node_bytes 14 NodeFits (node_stands bs bytes) (4 + length xs + 2) i k.2 e in

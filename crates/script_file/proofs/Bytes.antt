@@ -3,12 +3,12 @@ use Rattle.std.proofs.Common.{◌≡◌, ℕ, zero, suc, ◌+◌, ◌*◌, ◌/�
 use native.Mathlib.Nat.{pow-succ'}
 use Rattle.std.proofs.ByRecursion.{All-from_get_or}
 use Rattle.std.proofs.lemmas.List.{take_at, drop_at, drop-drop, length-take, length-drop}
-use Rattle.std.specs.List.{AllByRecursion as All}
+use Rattle.std.specs.List.{AllByRecursion}
 use Rattle.script_file.specs.Format.{bytes_of, number_of, part}
 
 -- each is a byte
 abbrev pub Octets : List ℕ → Type 0
-Octets bs = All (λ b. b < 256) bs
+Octets bs = AllByRecursion (λ b. b < 256) bs
 
 -- the bytes of a slice are bytes
 pub octets : (bs : List ℕ) → ((i : ℕ) → Fits w8 (get_or bs i 0)) → Octets bs

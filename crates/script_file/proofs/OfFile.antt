@@ -3,7 +3,7 @@ use Rattle.std.proofs.Common.{◌≡◌, ℕ, suc, ◌+◌, ◌*◌, ◌^◌, �
 use mir.Facts.{Fits-of_z}
 use Rattle.std.proofs.lemmas.Int.{to_z-of_z}
 use Rattle.std.proofs.lemmas.Bool.{cond-false, le-ltb, or_from}
-use Rattle.std.specs.List.{flat_map, AllByRecursion as All}
+use Rattle.std.specs.List.{flat_map, AllByRecursion}
 use Rattle.std.specs.Option.{ok_or}
 use Rattle.java.specs.declared.types.Primitive.{Primitive}
 use Rattle.java.specs.declared.types.Primitive.TheVariants.{Boolean, Byte, Short, Char, Int, Long}
@@ -67,7 +67,7 @@ node_between before behind o n f e =
 module _ {X : Type 0} (at : List ℕ → ℕ → Result X FileFault) (written : X → List ℕ) (size : ℕ) (Good : X → Type 0)
     (sized : (x : X) → length (written x) ≡ size)
     (between : (before behind : List ℕ) (o : ℕ) (x : X) → Good x → length before ≡ o → at (before ++ (written x ++ behind)) o ≡ Ok x) where
-  pub entries_between : (before behind : List ℕ) (o : ℕ) (xs : List X) → All Good xs → length before ≡ o
+  pub entries_between : (before behind : List ℕ) (o : ℕ) (xs : List X) → AllByRecursion Good xs → length before ≡ o
       → entries (at (before ++ (flat_map written xs ++ behind))) size o (length xs) ≡ Ok xs
   entries_between before behind o [] all e = refl
   entries_between before behind o (x ∷ xs) all e =
@@ -83,7 +83,7 @@ module _ {X : Type 0} (at : List ℕ → ℕ → Result X FileFault) (written : 
       then_ok (λ y. and_then (entries (at bs) size (o + size) (length xs)) (λ ys. Ok (y ∷ ys))) first
       ∙ then_ok (λ ys. Ok (x ∷ ys)) others
 
-  pub section_between : (before behind : List ℕ) (o least most : ℕ) (xs : List X) → All Good xs → length before ≡ o
+  pub section_between : (before behind : List ℕ) (o least most : ℕ) (xs : List X) → AllByRecursion Good xs → length before ≡ o
       → least ≤ length xs → length xs ≤ most → length xs < 65536
       → section (before ++ (bytes_of 2 (length xs) ++ (flat_map written xs ++ behind))) at size o least most ≡ Ok xs
   section_between before behind o least most xs all e low high small =
@@ -95,7 +95,7 @@ module _ {X : Type 0} (at : List ℕ → ℕ → Result X FileFault) (written : 
       ∙ ap (λ (t : List ℕ). entries (at t) size (o + 2) (length xs)) (sym (append_assoc before count rest))
       ∙ entries_between (before ++ count) behind (o + 2) xs all longer
 
-pub any : {X : Type 0} (xs : List X) → All (λ _. Unit {0}) xs
+pub any : {X : Type 0} (xs : List X) → AllByRecursion (λ _. Unit {0}) xs
 any [] = tt
 any (x ∷ xs) = (tt, any xs)
 

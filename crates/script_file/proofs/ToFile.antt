@@ -6,7 +6,7 @@ use Rattle.std.proofs.lemmas.List.{take_all, drop_all, drop_more, length-drop}
 use Rattle.std.proofs.lemmas.Int.{of_z-to_z}
 use Rattle.std.proofs.lemmas.Bool.{ltb-false, or_parts}
 use Rattle.std.proofs.lemmas.Bool.Decides.{nat_tests}
-use Rattle.std.specs.List.{flat_map, AllByRecursion as All}
+use Rattle.std.specs.List.{flat_map, AllByRecursion}
 use Rattle.std.specs.Option.{ok_or}
 use Rattle.java.specs.declared.types.Primitive.{Primitive}
 use Rattle.java.specs.Types.{type_code, type_of}
@@ -134,11 +134,11 @@ module _ (bs : List ℕ) (bytes : Octets bs) where
 module _ {X : Type 0} (bs : List ℕ) (at : List ℕ → ℕ → Result X FileFault) (written : X → List ℕ) (size : ℕ) (Good : X → Type 0)
     (stands : (o : ℕ) (x : X) → at bs o ≡ Ok x → Stands bs written size Good o x) where
   pub entries_stand : (o n : ℕ) {xs : List X} → o ≤ length bs → entries (at bs) size o n ≡ Ok xs
-      → Stands bs (flat_map written) (n * size) (All Good) o xs
+      → Stands bs (flat_map written) (n * size) (AllByRecursion Good) o xs
   entries_stand o zero {xs} h e =
       let none : [] ≡ xs = cc in
       let nought : 0 * size ≡ 0 = zero-mul size in
-      subst (Stands bs (flat_map written) (0 * size) (All Good) o) none
+      subst (Stands bs (flat_map written) (0 * size) (AllByRecursion Good) o) none
       (record { whole = omega arith; back = ap (λ (k : ℕ). part o k bs) (sym nought); good = tt })
   entries_stand o (suc n) {xs} h e =
       let p = then_parts (at bs o) (λ x. and_then (entries (at bs) size (o + size) n) (λ ys. Ok (x ∷ ys))) e in
@@ -148,7 +148,7 @@ module _ {X : Type 0} (bs : List ℕ) (at : List ℕ → ℕ → Result X FileFa
       let more : suc n * size ≡ n * size + size = suc-mul n size in
       let sum : size + n * size ≡ suc n * size = omega arith in
       let all : p.0 ∷ q.0 ≡ xs = let k = q.2 in cc in
-      subst (Stands bs (flat_map written) (suc n * size) (All Good) o) all
+      subst (Stands bs (flat_map written) (suc n * size) (AllByRecursion Good) o) all
       (record {
         whole = omega (arith, others.whole);
         back = ap₂ ◌++◌ one.back others.back ∙ part_part o bs size (n * size) ∙ ap (λ (k : ℕ). part o k bs) sum;

@@ -3,7 +3,7 @@ use Rattle.std.proofs.Common.{◌≡◌, ℕ, zero, suc, ◌+◌, ◌-◌, ◌*�
 use lib.ListN.{length-replicate}
 use Rattle.std.proofs.ByRecursion.{All-append}
 use Rattle.std.proofs.lemmas.List.{take_at}
-use Rattle.std.specs.List.{flat_map, AllByRecursion as All}
+use Rattle.std.specs.List.{flat_map, AllByRecursion}
 use Rattle.java.specs.declared.types.Primitive.{Primitive}
 use Rattle.java.specs.declared.types.Primitive.TheVariants.{Boolean}
 use Rattle.script.specs.declared.node.Node.{Node}
@@ -17,7 +17,7 @@ plain = record { kind = 0; detail = 0; up = record { 0 = 0 }; end = record { 0 =
 plain_fits : NodeFits plain
 plain_fits = record { kind = omega arith; detail = omega arith; up = omega arith; end = omega arith; number = record { sfits = omega arith } }
 
-all_plain : (n : ℕ) → All NodeFits (replicate n plain)
+all_plain : (n : ℕ) → AllByRecursion NodeFits (replicate n plain)
 all_plain zero = tt
 all_plain (suc n) = (plain_fits, all_plain n)
 
@@ -102,7 +102,7 @@ module _ (bs : List ℕ) where
       same = same_front (labels_front labels) _ (file (begun labels (plain ∷ []))) (4 + length types) e reached (after_labels labels (plain ∷ []));
     }
 
-    pub valid_at_node : (labels nodes i : ℕ) (right : List Node) → labels ≤ 32 → nodes ≤ 1024 → i < nodes → length right ≡ i → All NodeFits right
+    pub valid_at_node : (labels nodes i : ℕ) (right : List Node) → labels ≤ 32 → nodes ≤ 1024 → i < nodes → length right ≡ i → AllByRecursion NodeFits right
         → 6 + length types + i * 14 ≤ length bs → count_front labels nodes ++ flat_map node_bytes right ≡ take (6 + length types + i * 14) bs
         → ValidBefore bs (6 + length types + i * 14) 14
     valid_at_node labels nodes i right few_labels few_nodes inside long fit reached e =

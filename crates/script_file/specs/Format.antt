@@ -2,7 +2,7 @@
 use Rattle.std.specs.Prelude.{ℕ, zero, suc, ◌+◌, ◌*◌, ◌/◌, ◌%◌, ◌<◌, ◌≤◌, List, [], ◌∷◌, ◌++◌, length, take, drop, FitsSigned, slice_index}
 use Rattle.std.specs.Int.{w64}
 use Rattle.std.proofs.Common.{of_z, to_z}
-use Rattle.std.specs.List.{flat_map, AllByRecursion as All}
+use Rattle.std.specs.List.{flat_map, AllByRecursion}
 use Rattle.java.specs.declared.types.Primitive.{Primitive}
 use Rattle.java.specs.Types.{type_code}
 use Rattle.script.specs.declared.node.Node.{Node}
@@ -61,4 +61,4 @@ pub record Within (s : Script) : Type 0 where
   pub labels : s.labels ≤ 32
   pub least : 1 ≤ length s.nodes
   pub nodes : length s.nodes ≤ 1024
-  pub fits : All NodeFits s.nodes
+  pub fits : AllByRecursion NodeFits s.nodes

@@ -1,5 +1,5 @@
 -- The rules as tests say what the rules as relations say.
-use Rattle.std.proofs.Common.{◌≡◌, ℕ, zero, suc, ◌+◌, ◌<◌, ◌≤◌, Bool, true, false, cond, not, ◌&&◌, ◌||◌, eqb, ltb, leb, ◌⊎◌, List, [], ◌∷◌, is_some, Some, None, Decides, Option, sym, refl, ap, ◌∙◌, subst, inl, inr}
+use Rattle.std.proofs.Common.{◌≡◌, ℕ, zero, suc, ◌+◌, ◌<◌, ◌≤◌, Bool, true, false, not, ◌||◌, eqb, leb, List, [], ◌∷◌, is_some, Some, None, Decides, Option, sym, refl, ap}
 use Rattle.std.proofs.lemmas.Bool.{both_ways, le-leb, leb-true}
 use Rattle.std.proofs.lemmas.Bool.Decides.{Decides-and, Decides-below_and, Decides-below_or, Decides-eqb, Decides-like, Decides-ltb, Decides-not, Decides-or}
 use Rattle.script.specs.declared.children.Sort.{Sort}
@@ -19,7 +19,7 @@ use Rattle.semantics.specs.Trees.{Child, EndsBefore, Placed, child, ends_before,
 use Rattle.semantics.specs.Shapes.{Children, InTurn, NoExpression, Shaped, child_fits, children, in_turn, is_block, shaped}
 use Rattle.semantics.specs.Labels.{Encloses, EnclosesAsLoop, LabelKept, encloses, encloses_as_loop, is_labelled, is_while, label_kept}
 use Rattle.semantics.specs.Scopes.{InScope, ScopeKept, declared, declares, in_scope, scope_kept}
-use Rattle.semantics.specs.Types.{Misfits, is_misfit, type_at, typing}
+use Rattle.semantics.specs.Types.{is_misfit, type_at, typing}
 use Rattle.semantics.specs.Flow.{AssignedBefore, assigned_before}
 use Rattle.semantics.specs.Rules.{Keeps, keeps}
 

@@ -1,11 +1,11 @@
 -- Membership in a set of locals, local by local.
-use Rattle.std.proofs.Common.{◌≡◌, ℕ, zero, suc, ◌+◌, ◌-◌, ◌*◌, ◌/◌, ◌%◌, ◌^◌, ◌<◌, ◌≤◌, Bool, true, false, cond, not, ◌&&◌, ◌||◌, eqb, ltb, ◌⊎◌, sym, refl, ap, ◌∙◌, subst, inl, inr, ⊎_elim, one-mul, arith}
+use Rattle.std.proofs.Common.{◌≡◌, ℕ, zero, suc, ◌+◌, ◌-◌, ◌/◌, ◌%◌, ◌^◌, ◌<◌, ◌≤◌, Bool, true, false, not, ◌&&◌, ◌||◌, eqb, ltb, sym, refl, ap, ◌∙◌, subst, ⊎_elim, one-mul, arith}
 use native.Mathlib.Nat.{div-eq_of_lt}
 use lib.Bits.{bit_and, bit_or, bit_xor, or_shr, or_mod, and_shr, and_mod, xor_shr, xor_mod, and_comm, and_mask, xor_add_and, shifted_even}
 use Rattle.std.proofs.lemmas.Nat.{pow-add, shl-shr, pow_below, mod_below}
 use Rattle.std.proofs.lemmas.Bool.{cases_order, eq-eqb, ne_eqb, lt-ltb, cond-true}
 use Rattle.semantics.specs.declared.sets.LocalSet.{LocalSet}
-use Rattle.semantics.specs.Sets.{full, has, none, shared, with, without}
+use Rattle.semantics.specs.Sets.{full, has, shared, with, without}
 
 -- bit x of a number
 abbrev bit : ℕ → ℕ → Bool

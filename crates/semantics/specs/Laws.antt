@@ -5,7 +5,7 @@ use Rattle.script.specs.Scripts.{Script}
 use Rattle.script.specs.Tables.{size}
 use Rattle.semantics.specs.declared.fault.Rule.TheVariants as R
 use Rattle.semantics.specs.declared.fault.AdmissionFault.{AdmissionFault}
-use Rattle.semantics.specs.Trees.{Tree, Walked}
+use Rattle.semantics.specs.Trees.{Walked}
 use Rattle.semantics.specs.Types.{TypeLaws, type_at}
 use Rattle.semantics.specs.Flow.{Facts, FlowLaws, facts}
 use Rattle.semantics.specs.Rules.{Admitted, AllKeep, Refused}

@@ -1,11 +1,11 @@
 -- Whether a node has the children of its kind.
-use Rattle.std.specs.Prelude.{◌≡◌, ℕ, ◌+◌, ◌<◌, Bool, true, false, cond, not, ◌&&◌, ◌||◌, List, [], ◌∷◌, Some, None, Option, ◌==◌, nat_lt}
+use Rattle.std.specs.Prelude.{◌≡◌, ℕ, ◌+◌, ◌<◌, Bool, true, false, not, ◌&&◌, ◌||◌, List, [], ◌∷◌, Some, None, Option, ◌==◌, nat_lt}
 use Rattle.script.specs.declared.children.Sort.{Sort}
 use Rattle.script.specs.declared.construct.Construct.{Construct}
 use Rattle.script.specs.declared.construct.Construct.TheVariants.{Empty, Literal, Local, Unary, Binary, Conditional, Assignment, Reading, Expression, Labelled, Break, Continue, If, While, Block, Declaration}
 use Rattle.script.specs.Children.{children_of, is_expression, is_of_sort}
 use Rattle.script.specs.Scripts.{Script}
-use Rattle.script.specs.Tables.{size, up, end, construct}
+use Rattle.script.specs.Tables.{up, end, construct}
 use Rattle.semantics.specs.Searches.{all_below}
 
 -- from q to e there is one child of each sort after the other

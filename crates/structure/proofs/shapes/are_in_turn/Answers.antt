@@ -29,7 +29,7 @@ loop-sort-preserved c =
     ∙ one_more s c.loop-sort.at (end s c.args.p) c.loop-sort.sort-index c.args.sorts.now c.loop-sort-test.true
     (omega (arith, c.if-at-end.false, c.end-end.ensures))
     (ap (λ (x : Construct). is_of_sort sort x) (sym c.construct.ensures) ∙ sym c.has.ensures ∙ c.if-not-has.false)
-    ∙ ap (λ (n : ℕ). in_turn s n (end s c.args.p) (drop (c.loop-sort.sort-index + 1) c.args.sorts.now)) (sym c.end_at.ensures)
+    ∙ ap (λ (n : ℕ). in_turn s n (end s c.args.p) (drop (c.loop-sort.sort-index + 1) c.args.sorts.now)) (sym c.end-at.ensures)
 
 pub returns : goal.returns
 returns c =

@@ -19,13 +19,13 @@ loop-at-init c =
       λ q h l e. absurd (omega arith),
     )
 
-pub returns-then-is-expression : goal.returns-then-is-expression
-returns-then-is-expression c =
+pub returns-then-is_expression : goal.returns-then-is_expression
+returns-then-is_expression c =
     let s = script_of c.args.table.now in
     let p = c.args.p in
     let at = c.loop-at.at in
     let d = no_expression_decided s p in
-    let yes : is_expression (construct s at) ≡ true = ap is_expression (sym c.construct.ensures) ∙ sym c.if-is-expression.ensures in
+    let yes : is_expression (construct s at) ≡ true = ap is_expression (sym c.construct.ensures) ∙ sym c.if-is_expression.ensures in
     ⊎_elim
     (λ (z : all_below (child_fits s p) (end s p) ≡ true).
     absurd (both_ways (is_expression (construct s at))
@@ -44,7 +44,7 @@ loop-at-preserved c =
     let last : c.end-end.result.0 ≡ end s p = c.end-end.ensures in
     let inside : at < size s = omega (arith, c.loop-at-test.true) in
     let a = tree.after at inside in
-    let here : c.end_at.result.0 ≡ end s at = c.end_at.ensures in
+    let here : c.end-at.result.0 ≡ end s at = c.end-at.ensures in
     let n = tree.nested p at inside (omega (arith, c.loop-at.invariant.1)) (omega (arith, c.loop-at-test.true)) in (
       omega arith,
       omega (arith, c.loop-at.invariant.1),
@@ -53,7 +53,7 @@ loop-at-preserved c =
           (λ (z : q < at). c.loop-at.invariant.3 q z l e)
           (λ (z : at ≤ q). ⊎_elim
           (λ (y : at ≡ q). subst (λ (k : ℕ). is_expression (construct s k) ≡ false) y
-          (ap is_expression (sym c.construct.ensures) ∙ sym c.if-is-expression.ensures))
+          (ap is_expression (sym c.construct.ensures) ∙ sym c.if-is_expression.ensures))
           (λ y. absurd (omega (arith, tree.nearest at q (omega arith) (omega arith) (omega arith))))
           (cases_eq at q))
           (cases_lt q at),

@@ -8,12 +8,12 @@ use Rattle.structure.proofs.trees.first_misplaced.Goals as goal
 pub loop-p-init : goal.loop-p-init
 loop-p-init c = none_passed (script_of c.args.table.now) _ refl
 
-pub returns-then-not-is-in-place : goal.returns-then-not-is-in-place
-returns-then-not-is-in-place c =
+pub returns-then-not-is_in_place : goal.returns-then-not-is_in_place
+returns-then-not-is_in_place c =
     let s = script_of c.args.table.now in
     let h : c.loop-p.p < size s = omega arith in
     breaks_here R.Tree s c.loop-p.p h
-    (sym (agrees s c.loop-p.next c.loop-p.p c.loop-p.invariant (omega arith)) ∙ sym c.is-in-place.ensures ∙ c.if-not-is-in-place.true) c.loop-p.invariant.kept
+    (sym (agrees s c.loop-p.next c.loop-p.p c.loop-p.invariant (omega arith)) ∙ sym c.is_in_place.ensures ∙ c.if-not-is_in_place.true) c.loop-p.invariant.kept
 
 pub loop-p-preserved : goal.loop-p-preserved
 loop-p-preserved c =
@@ -22,7 +22,7 @@ loop-p-preserved c =
     let next = c.loop-p.next in
     let h : p < size s = omega arith in
     let small : size s ≤ 1024 = search rules in
-    let here = sym (agrees s next p c.loop-p.invariant (omega arith)) ∙ sym c.is-in-place.ensures ∙ c.if-not-is-in-place.false in
+    let here = sym (agrees s next p c.loop-p.invariant (omega arith)) ∙ sym c.is_in_place.ensures ∙ c.if-not-is_in_place.false in
     subst (λ (l : List ℕ). Awaits s (set l p (p + 1)) (p + 1))
     (ap (λ (u : ℕ). set next u (end s p)) (sym c.up.ensures) ∙ ap (set next c.up.result.0) (sym c.end.ensures))
     (one_passed s next p c.loop-p.invariant h small here)

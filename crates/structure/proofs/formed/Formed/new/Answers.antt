@@ -8,5 +8,5 @@ empty_formed : formed empty_script ≡ true
 unfolding broken_at lowest_failing all_below some_below meaning construct node up end
 empty_formed = refl
 
-pub invariant-of-result : goal.invariant-of-result
-invariant-of-result c = (ap formed c.new.ensures ∙ empty_formed, tt)
+pub invariant_of-result : goal.invariant_of-result
+invariant_of-result c = (ap formed c.new.ensures ∙ empty_formed, tt)

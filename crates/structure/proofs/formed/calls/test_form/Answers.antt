@@ -6,8 +6,8 @@ use Rattle.semantics.proofs.Tested.{kept_rule}
 use Rattle.semantics.proofs.Trees.{tree_of}
 use Rattle.structure.proofs.formed.calls.test_form.Goals as goal
 
-pub first-misshapen-requires : goal.first-misshapen-requires
-first-misshapen-requires c =
+pub first_misshapen-requires : goal.first_misshapen-requires
+first_misshapen-requires c =
     let s = script_of c.args.table.now in
-    let passed = ap (refusal R.Tree) (sym c.first-misplaced.ensures) ∙ sym c.refuse-2.ensures ∙ c.in-ok-refuse-2.was in
+    let passed = ap (refusal R.Tree) (sym c.first_misplaced.ensures) ∙ sym c.refuse-2.ensures ∙ c.in_ok-refuse-2.was in
     record { tree = tree_of s (search rules) (kept_rule s R.Tree passed) }

@@ -1,5 +1,5 @@
 -- The last statement of a label is the only one that can be open, so the test by where it was seen is the rule of labels.
-use Rattle.std.proofs.Common.{◌≡◌, ℕ, ◌+◌, ◌<◌, ◌≤◌, Bool, true, false, cond, not, ◌&&◌, ltb, List, length, get_or, is_some, Some, None, Decides, Option, sym, refl, ap, ◌∙◌, subst, ⊎_elim, arith}
+use Rattle.std.proofs.Common.{◌≡◌, ℕ, ◌+◌, ◌<◌, ◌≤◌, Bool, true, false, cond, not, ◌&&◌, ltb, List, get_or, is_some, Some, None, Decides, Option, sym, refl, ap, ◌∙◌, subst, ⊎_elim, arith}
 use Rattle.std.proofs.lemmas.Bool.{and_from, and_parts, both_ways, cases_Bool, cases_order, cond-true, lt-ltb, ltb-true}
 use Rattle.std.proofs.lemmas.Bool.Decides.{same_from_decides}
 use Rattle.script.specs.declared.sorts.Lab.{Lab}
@@ -10,12 +10,11 @@ use Rattle.script.specs.Constructs.{InSection}
 use Rattle.script.specs.Scripts.{Script}
 use Rattle.script.specs.Tables.{construct, end}
 use Rattle.semantics.specs.declared.fault.Rule.TheVariants as R
-use Rattle.semantics.specs.Labels.{Encloses, EnclosesAsLoop, LabelKept, encloses, encloses_as_loop, is_while, label_kept}
+use Rattle.semantics.specs.Labels.{Encloses, EnclosesAsLoop, LabelKept, encloses, encloses_as_loop, label_kept}
 use Rattle.semantics.specs.Rules.{keeps}
-use Rattle.semantics.specs.Searches.{some_below}
 use Rattle.semantics.proofs.Decided.{encloses_decided, kept, loop_decided, some_decided, while_decided}
 use Rattle.admission.specs.Names.{Small, label_in, label_test, on_while, open_at, still_open}
-use Rattle.admission.proofs.Seen.{Last, Seen, SeenAt}
+use Rattle.admission.proofs.Seen.{Seen, SeenAt}
 
 labelled : (c : Construct) (n : ℕ) → label_in c ≡ Some n → c ≡ Labelled (record { 0 = n })
 labelled Empty n e = absurd (let z : ◌≡◌ {A = ℕ} 0 1 = cc in omega arith)

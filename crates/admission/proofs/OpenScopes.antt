@@ -1,5 +1,5 @@
 -- A local is declared at most once, so the test by where its declaration was seen is the rule of scopes.
-use Rattle.std.proofs.Common.{◌≡◌, ℕ, ◌<◌, ◌≤◌, true, false, not, ltb, List, length, get_or, is_some, Some, None, Decides, Option, sym, refl, ap, ◌∙◌, subst, ⊎_elim, arith}
+use Rattle.std.proofs.Common.{◌≡◌, ℕ, ◌<◌, ◌≤◌, true, false, not, List, get_or, is_some, Some, None, Decides, Option, refl, ap, ◌∙◌, subst, ⊎_elim, arith}
 use Rattle.std.proofs.lemmas.Bool.{both_ways, cases_order, lt-ltb, ltb-true}
 use Rattle.std.proofs.lemmas.Bool.Decides.{same_from_decides}
 use Rattle.script.specs.declared.sorts.Loc.{Loc}
@@ -14,7 +14,7 @@ use Rattle.semantics.specs.Scopes.{InScope, ScopeKept, declared, in_scope, scope
 use Rattle.semantics.specs.Rules.{keeps}
 use Rattle.semantics.proofs.Decided.{declares_decided, in_scope_decided, kept, some_decided}
 use Rattle.admission.specs.Names.{Small, declared_in, scope_test, still_in_scope}
-use Rattle.admission.proofs.Seen.{Last, Seen, SeenAt}
+use Rattle.admission.proofs.Seen.{Seen, SeenAt}
 
 declaration : (c : Construct) (n : ℕ) → declared_in c ≡ Some n → c ≡ Declaration (record { 0 = n })
 declaration Empty n e = absurd (let z : ◌≡◌ {A = ℕ} 0 1 = cc in omega arith)

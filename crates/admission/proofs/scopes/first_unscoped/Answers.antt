@@ -1,8 +1,6 @@
 use Rattle.std.proofs.Common.{◌≡◌, ◌+◌, List, length, Option, sym, ap, ◌∙◌, subst, arith, below_more}
-use Rattle.script.specs.declared.construct.Construct.{Construct}
 use Rattle.script.specs.declared.sorts.Pos.{Pos}
 use Rattle.script.specs.Constructs.{InSection}
-use Rattle.script.specs.Scripts.{Script}
 use Rattle.script.specs.Tables.{construct, script_of}
 use Rattle.script.proofs.Sections.{sections}
 use Rattle.semantics.specs.declared.fault.Rule.TheVariants as R
@@ -16,8 +14,8 @@ use Rattle.admission.proofs.scopes.first_unscoped.Goals as goal
 pub loop-p-init : goal.loop-p-init
 loop-p-init c = ((λ q h. absurd (omega arith)), none_seen (declared_at (script_of c.table-table.result)) c.new-locals.result.places c.new-locals.ensures)
 
-pub is-kept-requires : goal.is-kept-requires
-is-kept-requires c =
+pub is_kept-requires : goal.is_kept-requires
+is_kept-requires c =
     let s = script_of c.table-table.result in
     subst (InSection (length s.locals) s.labels) (sym c.construct-construct.ensures) (sections s c.loop-p.p)
 
@@ -27,14 +25,14 @@ see-requires c =
     subst Small (sym (c.declared_in.ensures ∙ ap declared_in c.construct-construct.ensures))
     (small_local (length s.locals) s.labels (construct s c.loop-p.p) c.table-table.result.few_locals (sections s c.loop-p.p))
 
-pub returns-then-not-is-kept : goal.returns-then-not-is-kept
-returns-then-not-is-kept c =
+pub returns-then-not-is_kept : goal.returns-then-not-is_kept
+returns-then-not-is_kept c =
     let s = script_of c.table-table.result in
     let p = c.loop-p.p in
     let places = c.loop-p.locals.places in
     let same = scope_agrees s places p c.loop-p.invariant.0 c.loop-p.invariant.1 (length s.locals) s.labels c.table-table.result.few_locals (sections s p) in
     breaks_here R.Scope s p (omega arith)
-    (sym same ∙ ap (scope_test s places p) (sym c.construct-construct.ensures) ∙ sym c.is-kept.ensures ∙ c.if-not-is-kept.true)
+    (sym same ∙ ap (scope_test s places p) (sym c.construct-construct.ensures) ∙ sym c.is_kept.ensures ∙ c.if-not-is_kept.true)
     c.loop-p.invariant.0
     ∙ ap (first_broken R.Scope) c.table-table.ensures
 
@@ -46,7 +44,7 @@ loop-p-preserved c =
     let same = scope_agrees s places p c.loop-p.invariant.0 c.loop-p.invariant.1 (length s.locals) s.labels c.table-table.result.few_locals (sections s p) in
     let name : c.declared_in.result ≡ declared_at s p = c.declared_in.ensures ∙ ap declared_in c.construct-construct.ensures in (
       below_more _ _ c.loop-p.invariant.0
-          (sym same ∙ ap (scope_test s places p) (sym c.construct-construct.ensures) ∙ sym c.is-kept.ensures ∙ c.if-not-is-kept.false),
+          (sym same ∙ ap (scope_test s places p) (sym c.construct-construct.ensures) ∙ sym c.is_kept.ensures ∙ c.if-not-is_kept.false),
       subst (λ (l : List (Option Pos)). Seen (declared_at s) l (p + 1)) (sym c.see.ensures)
           (one_seen (declared_at s) p places c.declared_in.result (sym name)
           (subst Small (sym name) (small_local (length s.locals) s.labels (construct s p) c.table-table.result.few_locals (sections s p))) c.loop-p.invariant.1),

@@ -1,4 +1,4 @@
-use Rattle.std.proofs.Common.{◌≡◌, is_some, sym, ap, ◌∙◌, arith, below_more}
+use Rattle.std.proofs.Common.{is_some, sym, ap, ◌∙◌, arith, below_more}
 use Rattle.script.specs.Tables.{script_of}
 use Rattle.semantics.specs.declared.fault.Rule.TheVariants as R
 use Rattle.semantics.proofs.Tested.{breaks_here, breaks_nowhere}

@@ -1,8 +1,8 @@
-use Rattle.std.proofs.Common.{◌≡◌, ℕ, ◌+◌, ◌<◌, ◌≤◌, eqb, get_or, drop, sym, ap, ◌∙◌, subst, arith}
+use Rattle.std.proofs.Common.{ℕ, ◌+◌, eqb, get_or, drop, sym, ap, ◌∙◌, arith}
 use Rattle.script.specs.declared.children.Sort.TheVariants.{Expression}
 use Rattle.script.specs.declared.construct.Construct.{Construct}
 use Rattle.script.specs.Children.{is_of_sort}
-use Rattle.script.specs.Tables.{construct, end, script_of}
+use Rattle.script.specs.Tables.{end, script_of}
 use Rattle.semantics.specs.Shapes.{in_turn}
 use Rattle.structure.proofs.Turns.{all_found, another_sort, none_left, one_more}
 use Rattle.structure.proofs.shapes.are_in_turn.Goals as goal

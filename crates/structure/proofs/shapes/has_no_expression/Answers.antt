@@ -1,6 +1,5 @@
-use Rattle.std.proofs.Common.{◌≡◌, ℕ, ◌+◌, ◌<◌, ◌≤◌, true, false, sym, refl, ap, ◌∙◌, subst, ⊎_elim, arith}
+use Rattle.std.proofs.Common.{◌≡◌, ℕ, ◌<◌, ◌≤◌, true, false, sym, ap, ◌∙◌, subst, ⊎_elim, arith}
 use Rattle.std.proofs.lemmas.Bool.{both_ways, cases_Bool, cases_lt, cases_eq}
-use Rattle.script.specs.declared.construct.Construct.{Construct}
 use Rattle.script.specs.Children.{is_expression}
 use Rattle.script.specs.Tables.{construct, end, script_of, size, up}
 use Rattle.semantics.specs.Searches.{all_below}

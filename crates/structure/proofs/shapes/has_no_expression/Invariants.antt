@@ -1,6 +1,6 @@
 -- The children before `at` are no expressions, and `at` is the next child or the end.
 use Rattle.std.proofs.Common.{◌≡◌, ℕ, ◌-◌, ◌<◌, ◌≤◌, false}
-use Rattle.script.specs.Tables.{construct, end, script_of, up}
+use Rattle.script.specs.Tables.{construct, script_of, up}
 use Rattle.script.specs.Children.{is_expression}
 use Rattle.structure.proofs.shapes.has_no_expression.Given as goal
 

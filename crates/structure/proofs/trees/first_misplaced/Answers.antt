@@ -1,5 +1,5 @@
-use Rattle.std.proofs.Common.{◌≡◌, ℕ, ◌+◌, ◌<◌, ◌≤◌, List, set, sym, refl, ap, ◌∙◌, subst, arith, rules}
-use Rattle.script.specs.Tables.{end, script_of, size, up}
+use Rattle.std.proofs.Common.{ℕ, ◌+◌, ◌<◌, ◌≤◌, List, set, sym, refl, ap, ◌∙◌, subst, arith, rules}
+use Rattle.script.specs.Tables.{end, script_of, size}
 use Rattle.semantics.specs.declared.fault.Rule.TheVariants as R
 use Rattle.semantics.proofs.Tested.{breaks_here, breaks_nowhere}
 use Rattle.structure.proofs.Awaited.{Awaits, agrees, none_passed, one_passed}

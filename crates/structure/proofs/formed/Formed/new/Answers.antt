@@ -9,4 +9,4 @@ unfolding broken_at lowest_failing all_below some_below meaning construct node u
 empty_formed = refl
 
 pub invariant_of-result : goal.invariant_of-result
-invariant_of-result c = (ap formed c.new.ensures ∙ empty_formed, tt)
+invariant_of-result c = record { ok = ap formed c.new.ensures ∙ empty_formed }

@@ -8,6 +8,7 @@ mod tests;
 
 use crate::command::{Command, USAGE, understand};
 use crate::show::show;
+use std::process::ExitCode;
 use std::{env, io};
 
 fn words_of(rt: &HostRuntime) -> io::Result<Vec<String>> {
@@ -39,11 +40,11 @@ fn run(rt: &HostRuntime) -> io::Result<bool> {
     }
 }
 
-// An error is how a program ends with status 1.
-fn main(rt: HostRuntime) -> io::Result<()> {
+// What went wrong has been said, so the status alone tells it: an error from here would be printed too.
+fn main(rt: HostRuntime) -> io::Result<ExitCode> {
     if run(&rt)? {
-        Ok(())
+        Ok(ExitCode::SUCCESS)
     } else {
-        Err(io::Error::from(io::ErrorKind::InvalidData))
+        Ok(ExitCode::FAILURE)
     }
 }

@@ -10,12 +10,12 @@ use Rattle.semantics.specs.declared.fault.Rule.{Rule}
 use Rattle.semantics.specs.declared.fault.Rule.TheVariants as R
 use Rattle.semantics.specs.declared.fault.AdmissionFault.{AdmissionFault}
 use Rattle.semantics.specs.Faults.{refusal, rule_number}
-use Rattle.semantics.specs.Rules.{Admitted, AllKeep, Keeps, Refused, answer, broken_at, first_broken, in_order, keeps, or_else, tested}
+use Rattle.semantics.specs.Rules.{Admitted, AllKeep, Keeps, Refused, answer, broken_at, first_broken, form, in_order, keeps, or_else, tested}
 use Rattle.semantics.proofs.Decided.{kept}
 use Rattle.semantics.proofs.Lowest.{Lowest, lowest, lowest_is}
 
 -- every rule of a list is kept
-abbrev AllKept : Script → List Rule → Type 0
+abbrev pub AllKept : Script → List Rule → Type 0
 AllKept s [] = Unit {0}
 AllKept s (r ∷ rules) = AllKeep r s × AllKept s rules
 
@@ -88,7 +88,7 @@ module _ (s : Script) where
   pub kept_rule : (r : Rule) → refusal r (first_broken r s) ≡ Ok tt → AllKeep r s
   kept_rule r e = (kept_all (r ∷ []) (sym (rule_ends r s) ∙ e)).0
 
-  all_tested : (rules : List Rule) → AllKept s rules → tested s rules ≡ Ok tt
+  pub all_tested : (rules : List Rule) → AllKept s rules → tested s rules ≡ Ok tt
   all_tested [] a = refl
   all_tested (r ∷ rules) a =
       ap (λ (o : Option ℕ). or_else r o (tested s rules)) (unbroken r a.0) ∙ all_tested rules a.1
@@ -152,10 +152,14 @@ first_number R.Scope = omega arith
 first_number R.Type = omega arith
 first_number R.Assignment = omega arith
 
--- rules whose numbers go up one by one, to the last
-abbrev Consecutive : ℕ → List Rule → Type 0
-Consecutive n [] = n ≡ 17
-Consecutive n (r ∷ rules) = (rule_number r ≡ n) × Consecutive (suc n) rules
+-- rules whose numbers go up one by one from n, as far as `last`, which is none of them
+abbrev Consecutive : ℕ → ℕ → List Rule → Type 0
+Consecutive last n [] = n ≡ last
+Consecutive last n (r ∷ rules) = (rule_number r ≡ n) × Consecutive last (suc n) rules
+
+reaches : (last n : ℕ) (rules : List Rule) → Consecutive last n rules → n ≤ last
+reaches last n [] c = omega (arith, c)
+reaches last n (r ∷ rules) c = omega (arith, reaches last (suc n) rules c.1)
 
 module _ (s : Script) where
   -- every rule with a lower number is kept
@@ -182,15 +186,30 @@ module _ (s : Script) where
           earlier = λ q h. earlier q (omega arith);
         })
 
-    truly_refused : (n : ℕ) (rules : List Rule) → Consecutive n rules → Earlier n → tested s rules ≡ Err e → Refused s e
-    truly_refused n [] c earlier z = absurd (let w : ◌≡◌ {A = ℕ} 0 1 = cc in omega arith)
-    truly_refused n (r ∷ rules) c earlier z =
-        at_first n r (broken_at r s) (tested s rules) c.0 earlier (breaks r s) (truly_refused (suc n) rules c.1) z
+    truly_refused : (last n : ℕ) (rules : List Rule) → Consecutive last n rules → Earlier n → tested s rules ≡ Err e → Refused s e
+    truly_refused last n [] c earlier z = absurd (let w : ◌≡◌ {A = ℕ} 0 1 = cc in omega arith)
+    truly_refused last n (r ∷ rules) c earlier z =
+        at_first n r (broken_at r s) (tested s rules) c.0 earlier (breaks r s) (truly_refused last (suc n) rules c.1) z
+
+    -- what refuses is one of the rules that are tested
+    first_below : (last : ℕ) (r : Rule) (o : Option ℕ) (later : Result (Unit {0}) AdmissionFault) → rule_number r < last
+        → (later ≡ Err e → rule_number e.rule < last) → or_else r o later ≡ Err e → rule_number e.rule < last
+    first_below last r None later h next z = next z
+    first_below last r (Some p) later h next z =
+        let w : record { rule = r; place = record { 0 = p } } ≡ e = cc in
+        subst (λ (f : AdmissionFault). rule_number f.rule < last) w h
+
+    refused_below : (last n : ℕ) (rules : List Rule) → Consecutive last n rules → tested s rules ≡ Err e → rule_number e.rule < last
+    refused_below last n [] c z = absurd (let w : ◌≡◌ {A = ℕ} 0 1 = cc in omega arith)
+    refused_below last n (r ∷ rules) c z =
+        first_below last r (broken_at r s) (tested s rules) (omega (arith, c.0, reaches last (suc n) rules c.1))
+        (refused_below last (suc n) rules c.1) z
 
     -- a fault of which a refusal is true is the one that is found
-    refuses : (n : ℕ) (rules : List Rule) → Consecutive n rules → n ≤ rule_number e.rule → Refused s e → tested s rules ≡ Err e
-    refuses n [] c h f = absurd (omega (arith, last_number e.rule))
-    refuses n (r ∷ rules) c h f = ⊎_elim
+    refuses : (last n : ℕ) (rules : List Rule) → Consecutive last n rules → n ≤ rule_number e.rule → rule_number e.rule < last
+        → Refused s e → tested s rules ≡ Err e
+    refuses last n [] c h b f = absurd (omega (arith, c))
+    refuses last n (r ∷ rules) c h b f = ⊎_elim
         (λ (z : rule_number e.rule ≡ n).
         let w : e.rule ≡ r = same_rule e.rule r (z ∙ sym c.0) in
         let fails : keeps e.rule s e.place.0 ≡ false = false_since e.rule e.place.0 f.broken in
@@ -200,17 +219,24 @@ module _ (s : Script) where
         (ap (λ (o : Option ℕ). or_else e.rule o (tested s rules)) (sym b)))
         (λ z.
         ap (λ (o : Option ℕ). or_else r o (tested s rules)) (unbroken s r (f.earlier r (omega (arith, c.0))))
-        ∙ refuses (suc n) rules c.1 (omega arith) f)
+        ∙ refuses last (suc n) rules c.1 (omega arith) b f)
         (cases_eq (rule_number e.rule) n)
       where
         false_since : (r : Rule) (p : ℕ) → (Keeps r s p → ⊥) → keeps r s p ≡ false
         false_since r p broken = ⊎_elim (λ (y : keeps r s p ≡ true). absurd (broken ((kept r s p).0 y))) (λ y. y) (cases_Bool (keeps r s p))
 
-    numbers : Consecutive 10 in_order
-    numbers = (refl, (refl, (refl, (refl, (refl, (refl, (refl, refl)))))))
+    -- the first rules are tested, as far as `last`: a refusal by one of them is given exactly where what it says is so
+    refused_by : (last : ℕ) (rules : List Rule) → Consecutive last 10 rules
+        → (tested s rules ≡ Err e → Refused s e × (rule_number e.rule < last)) × (Refused s e → rule_number e.rule < last → tested s rules ≡ Err e)
+    refused_by last rules c = (
+      λ z. (truly_refused last 10 rules c (λ r h. absurd (omega (arith, first_number r))) z, refused_below last 10 rules c z),
+      λ f b. refuses last 10 rules c (first_number e.rule) b f,
+    )
 
     pub refused : (answer s ≡ Err e → Refused s e) × (Refused s e → answer s ≡ Err e)
-    refused = (
-      truly_refused 10 in_order numbers (λ r h. absurd (omega (arith, first_number r))),
-      refuses 10 in_order numbers (first_number e.rule),
-    )
+    refused =
+        let by = refused_by 17 in_order (refl, (refl, (refl, (refl, (refl, (refl, (refl, refl))))))) in
+        ((λ z. (by.0 z).0), (λ f. by.1 f (omega (arith, last_number e.rule))))
+
+    pub refused_by_form : (tested s form ≡ Err e → Refused s e × (rule_number e.rule < 13)) × (Refused s e → rule_number e.rule < 13 → tested s form ≡ Err e)
+    refused_by_form = refused_by 13 form (refl, (refl, (refl, refl)))

@@ -3,6 +3,7 @@ use Rattle.std.specs.Prelude.{◌≡◌, ℕ, ◌<◌, Ok, Err, Option, Result}
 use Rattle.java.specs.declared.types.Primitive.{Primitive}
 use Rattle.script.specs.Scripts.{Script}
 use Rattle.script.specs.Tables.{size}
+use Rattle.semantics.specs.declared.fault.Rule.{Rule}
 use Rattle.semantics.specs.declared.fault.Rule.TheVariants as R
 use Rattle.semantics.specs.declared.fault.AdmissionFault.{AdmissionFault}
 use Rattle.semantics.specs.Trees.{Walked}
@@ -27,6 +28,25 @@ pub record WellFormed (s : Script) : Type 0 where
   pub some : 0 < size s
   pub placed : AllKeep R.Tree s
   pub shaped : AllKeep R.Children s
+
+-- the rules of form
+abbrev pub IsOfForm : Rule → Type 0
+IsOfForm R.Construct = Unit {0}
+IsOfForm R.Tree = Unit {0}
+IsOfForm R.Children = Unit {0}
+IsOfForm R.Label = ⊥
+IsOfForm R.Scope = ⊥
+IsOfForm R.Type = ⊥
+IsOfForm R.Assignment = ⊥
+
+-- what holds of an answer by the rules of form alone
+pub record FormLawful (s : Script) (r : Result (Unit {0}) AdmissionFault) : Type 0 where
+  -- exactly the scripts whose every node keeps these rules are taken
+  pub taken : (r ≡ Ok tt → (rule : Rule) → IsOfForm rule → AllKeep rule s) × (((rule : Rule) → IsOfForm rule → AllKeep rule s) → r ≡ Ok tt)
+  -- a refusal is by one of them, and is given exactly where what it says is so
+  pub refused : (e : AdmissionFault) → (r ≡ Err e → IsOfForm e.rule × Refused s e) × (IsOfForm e.rule → Refused s e → r ≡ Err e)
+  -- a script that is taken is a tree, as a walk from its root finds it
+  pub walked : r ≡ Ok tt → Walked s
 
 pub record Lawful (s : Script) (r : Result (Unit {0}) AdmissionFault) : Type 0 where
   -- exactly the scripts whose every node keeps every rule are admitted

@@ -1,6 +1,7 @@
 // What can be done with a script of good form.
 ghost use Rattle.std.specs.Prelude.{◌≡◌, MatchResult};
 ghost use Rattle.script.specs.Tables.{empty_script, script_of};
+ghost use Rattle.semantics.specs.Laws.{FormLawful};
 ghost use Rattle.semantics.specs.Rules.{form, tested};
 ghost use Rattle.structure.specs.Forms.{formed_script};
 
@@ -24,6 +25,7 @@ impl<'a> Formed<'a> {
     // Holds this table from now on; where it breaks a rule of form, what it held before.
     pub fn hold(&mut self, table: Table<'a>) -> Result<(), AdmissionFault>
         ensures value { result ≡ tested (script_of table.entry) form }
+        ensures lawful { FormLawful (script_of table.entry) result }
         ensures after { MatchResult result (λ _. formed_script self.new ≡ script_of table.entry) (λ _. self.new ≡ self.old) }
     {
         test_form(&table)?;

@@ -1,8 +1,12 @@
 -- A script that keeps the rules of form is a tree whose nodes have the children of their kinds.
-use Rattle.std.proofs.Common.{◌≡◌, ◌<◌, true, false, is_ok, Ok, Err, Result, refl, arith}
+use Rattle.std.proofs.Common.{◌≡◌, ℕ, ◌<◌, true, false, is_ok, length, Some, Ok, Err, Option, Result, unwrap_or, refl, ap, subst, arith}
 use Rattle.std.proofs.lemmas.Bool.{both_ways}
+use Rattle.script.specs.declared.construct.Construct.{Construct}
+use Rattle.script.specs.declared.construct.Construct.TheVariants.{Empty}
+use Rattle.script.specs.Constructs.{InSection}
 use Rattle.script.specs.Scripts.{Script}
-use Rattle.script.specs.Tables.{size}
+use Rattle.script.specs.Tables.{construct, meaning, size}
+use Rattle.script.proofs.Sections.{sections}
 use Rattle.semantics.specs.declared.fault.Rule.{Rule}
 use Rattle.semantics.specs.declared.fault.Rule.TheVariants as R
 use Rattle.semantics.specs.declared.fault.AdmissionFault.{AdmissionFault}
@@ -11,6 +15,7 @@ use Rattle.semantics.specs.Laws.{FormLawful, IsOfForm, WellFormed}
 use Rattle.semantics.specs.Rules.{AllKeep, form, formed, tested}
 use Rattle.semantics.proofs.Tested.{AllKept, all_tested, kept_all, refused_by_form}
 use Rattle.semantics.proofs.Trees.{tree_of, walked}
+use Rattle.semantics.proofs.Walks.{kept_by_walk}
 
 ok_since : (r : Result (Unit {0}) AdmissionFault) → is_ok r ≡ true → r ≡ Ok tt
 ok_since (Ok tt) e = refl
@@ -50,6 +55,12 @@ each_kept s a R.Scope h = absurd h
 each_kept s a R.Type h = absurd h
 each_kept s a R.Assignment h = absurd h
 
+named : (s : Script) (p : ℕ) (c : Construct) → meaning s p ≡ Some c → InSection (length s.locals) s.labels c
+unfolding construct
+named s p c e =
+    let stands : construct s p ≡ c = ap (λ (o : Option Construct). unwrap_or o Empty) e in
+    subst (InSection (length s.locals) s.labels) stands (sections s p)
+
 -- what the rules of form answer keeps the law of form
 pub form_lawful : (s : Script) → 0 < size s → FormLawful s (tested s form)
 form_lawful s some = record {
@@ -61,5 +72,6 @@ form_lawful s some = record {
     λ e. let by = (refused_by_form s f).0 e in (of_form f.rule by.1, by.0),
     λ h true_of. (refused_by_form s f).1 true_of (below_13 f.rule h),
   );
-  walked = λ e. walked s (tree_of s some (kept_all s form e).1.0);
+  walked = (λ all. walked s (tree_of s some all), kept_by_walk s);
+  named = named s;
 }

@@ -4,3 +4,4 @@ pub mod Lowest
 pub mod Members
 pub mod Tested
 pub mod Trees
+pub mod Walks

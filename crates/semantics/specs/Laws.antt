@@ -1,8 +1,10 @@
 -- What holds of every answer to a script, beyond the definition that computes it.
-use Rattle.std.specs.Prelude.{◌≡◌, ℕ, ◌<◌, Ok, Err, Option, Result}
+use Rattle.std.specs.Prelude.{◌≡◌, ℕ, ◌<◌, length, Some, Ok, Err, Option, Result}
 use Rattle.java.specs.declared.types.Primitive.{Primitive}
 use Rattle.script.specs.Scripts.{Script}
-use Rattle.script.specs.Tables.{size}
+use Rattle.script.specs.declared.construct.Construct.{Construct}
+use Rattle.script.specs.Constructs.{InSection}
+use Rattle.script.specs.Tables.{meaning, size}
 use Rattle.semantics.specs.declared.fault.Rule.{Rule}
 use Rattle.semantics.specs.declared.fault.Rule.TheVariants as R
 use Rattle.semantics.specs.declared.fault.AdmissionFault.{AdmissionFault}
@@ -11,8 +13,7 @@ use Rattle.semantics.specs.Types.{TypeLaws, type_at}
 use Rattle.semantics.specs.Flow.{Facts, FlowLaws, facts}
 use Rattle.semantics.specs.Rules.{Admitted, AllKeep, Refused}
 
--- the types of a script that keeps the rules of constructs, tree and children are those of the typing rules, and no others
--- are
+-- the types of a script that keeps the rules of tree and children are those of the typing rules, and no others are
 pub record TypesExact (s : Script) : Type 0 where
   pub lawful : TypeLaws s (type_at s)
   pub only : (type : ℕ → Option Primitive) → TypeLaws s type → (p : ℕ) → p < size s → type p ≡ type_at s p
@@ -45,8 +46,10 @@ pub record FormLawful (s : Script) (r : Result (Unit {0}) AdmissionFault) : Type
   pub taken : (r ≡ Ok tt → (rule : Rule) → IsOfForm rule → AllKeep rule s) × (((rule : Rule) → IsOfForm rule → AllKeep rule s) → r ≡ Ok tt)
   -- a refusal is by one of them, and is given exactly where what it says is so
   pub refused : (e : AdmissionFault) → (r ≡ Err e → IsOfForm e.rule × Refused s e) × (IsOfForm e.rule → Refused s e → r ≡ Err e)
-  -- a script that is taken is a tree, as a walk from its root finds it
-  pub walked : r ≡ Ok tt → Walked s
+  -- the rule of the tree is kept exactly by the scripts that a walk from the root finds to be trees
+  pub walked : (AllKeep R.Tree s → Walked s) × (Walked s → AllKeep R.Tree s)
+  -- what a node stands for names only locals and labels that the script has
+  pub named : (p : ℕ) (c : Construct) → meaning s p ≡ Some c → InSection (length s.locals) s.labels c
 
 pub record Lawful (s : Script) (r : Result (Unit {0}) AdmissionFault) : Type 0 where
   -- exactly the scripts whose every node keeps every rule are admitted

@@ -1,5 +1,5 @@
 -- What is left of a number modulo a power of two: it is a residue of that number alone, and any bits of the number give it.
-use Rattle.std.proofs.Common.{◌≡◌, ℕ, ◌+◌, ◌-◌, ◌*◌, ◌/◌, ◌%◌, ◌^◌, ◌<◌, ◌≤◌, ℤ, pos, negsuc, ◌+ℤ◌, nat_abs, sym, refl, ap, ◌∙◌, mod-lt, mod-eq_of_lt, mul-le-mul_left, div-add-mod', arith, pow_pos}
+use Rattle.std.proofs.Common.{◌≡◌, ℕ, ◌+◌, ◌-◌, ◌*◌, ◌/◌, ◌%◌, ◌^◌, ◌<◌, ◌≤◌, ℤ, pos, negsuc, ◌+ℤ◌, nat_abs, sym, refl, ap, ◌∙◌, mod-lt, mul-le-mul_left, div-add-mod', arith, pow_pos}
 use borrow.Author.Differences.{up, down, ints}
 use Rattle.std.proofs.lemmas.Int.{int_rem_euclid_is}
 use Rattle.java.specs.Values.{residue}
@@ -19,8 +19,7 @@ residue_same k a b (i, j, e) =
 
 pub residue_below : (k : ℕ) (z : ℤ) → residue k z < 2 ^ k
 unfolding residue
-residue_below k (pos a) = mod-lt a (pow_pos k)
-residue_below k (negsuc a) = let some = pow_pos k in omega arith
+residue_below k z = grind (arith, pow_pos, mod-lt)
 
 pub residue_congruent : (k : ℕ) (z : ℤ) → Congruent (2 ^ k) (pos (residue k z)) z
 unfolding residue
@@ -29,7 +28,3 @@ residue_congruent k (negsuc a) =
     let split = div-add-mod' a (2 ^ k) in
     let small = mod-lt a (pow_pos k) in
     (0, a / 2 ^ k + 1, omega (arith, ints))
-
-pub residue_whole : (k n : ℕ) → n < 2 ^ k → residue k (pos n) ≡ n
-unfolding residue
-residue_whole k n h = mod-eq_of_lt h

@@ -1,5 +1,5 @@
 -- What an operator gives on values: the arithmetic of whole numbers, of which the result's type keeps the low bits.
-use Rattle.std.specs.Prelude.{ℕ, ◌/◌, ◌^◌, Bool, false, cond, not, ◌&&◌, ◌||◌, ℤ, pos, ◌+ℤ◌, ◌-ℤ◌, ◌*ℤ◌, neg_ℤ, Some, None, Ok, Err, Option, Result, ◌==◌, bit_and, bit_or, bit_xor, int_div, int_le, int_lt, int_rem, unsigned_abs}
+use Rattle.std.specs.Prelude.{ℕ, ◌/◌, ◌^◌, List, codes, Bool, false, cond, not, ◌&&◌, ◌||◌, ℤ, pos, ◌+ℤ◌, ◌-ℤ◌, ◌*ℤ◌, neg_ℤ, Some, None, Ok, Err, Option, Result, ◌==◌, bit_and, bit_or, bit_xor, int_div, int_le, int_lt, int_rem, unsigned_abs}
 use Rattle.std.specs.Int.Signed.{shr_z}
 use Rattle.std.specs.Option.{option_map, ok_or}
 use Rattle.java.specs.declared.types.Primitive.TheVariants as P
@@ -30,11 +30,7 @@ use Rattle.java.specs.Typing.{promoted, promoted_pair, promoted_shift, not_type,
 -- whether a value is the boolean true
 abbrev pub truth : Value → Bool
 truth (V.Boolean b) = b
-truth (V.Byte n) = false
-truth (V.Short n) = false
-truth (V.Char n) = false
-truth (V.Int n) = false
-truth (V.Long n) = false
+truth _ = false
 
 -- the value that a unary operator gives, or none where no rule fits; ~z is −z − 1
 abbrev pub unary_value : Unary → Value → Option Value
@@ -120,6 +116,11 @@ bitwise_value o l r =
     cond (same_type (value_type l) P.Boolean && same_type (value_type r) P.Boolean)
     (Ok (V.Boolean (logical o (truth l) (truth r))))
     (ok_or (option_map (λ n. value_of n (pos (bitwise o (residue (width n) (number l)) (residue (width n) (number r))))) (promoted_pair (value_type l) (value_type r))) Untyped)
+
+-- why there is no value, in words
+abbrev pub no_value_text : NoValue → List ℕ
+no_value_text Untyped = codes "no type"
+no_value_text ZeroDivisor = codes "zero divisor"
 
 abbrev pub binary_value : Binary → Value → Value → Result Value NoValue
 binary_value (B.Arithmetic o) l r = arithmetic_value o l r

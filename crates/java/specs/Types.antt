@@ -50,11 +50,8 @@ numeric Int = Some N.Int
 numeric Long = Some N.Long
 
 abbrev pub is_long : Numeric → Bool
-is_long N.Byte = false
-is_long N.Short = false
-is_long N.Char = false
-is_long N.Int = false
 is_long N.Long = true
+is_long _ = false
 
 -- the widest of some numeric types and int: long if one of them is long, otherwise int
 abbrev pub widest : List Numeric → Numeric

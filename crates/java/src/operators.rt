@@ -1,14 +1,14 @@
 // The operators, those of two operands grouped by the rule that types them, each with its symbol and with the code that
 // stands for it in stored data.
-ghost use Rattle.std.specs.Prelude.{◌≡◌, Some};
-ghost use Rattle.java.specs.declared.operators.Unary.{Unary};
-ghost use Rattle.java.specs.declared.operators.Binary.{Binary};
+ghost use Rattle.std.specs.Prelude.{Some};
+ghost use Rattle.java.specs.Codes.{Decodes};
 ghost use Rattle.java.specs.Operators.{unary_code, unary_of, unary_symbol, binary_code, binary_of, binary_symbol};
 
+use crate::codes::UnknownCode;
 use crate::types::Numeric;
 use std::fmt;
 
-#[derive(Clone, Copy)]
+#[derive(Clone, Copy, PartialEq, Eq, Debug)]
 pub enum Unary {
     Plus,
     Minus,
@@ -17,7 +17,7 @@ pub enum Unary {
     Cast(Numeric),
 }
 
-#[derive(Clone, Copy)]
+#[derive(Clone, Copy, PartialEq, Eq, Debug)]
 pub enum Binary {
     Arithmetic(Arithmetic),
     Shift(Shift),
@@ -26,7 +26,7 @@ pub enum Binary {
     Bitwise(Bitwise),
 }
 
-#[derive(Clone, Copy)]
+#[derive(Clone, Copy, PartialEq, Eq, Debug)]
 pub enum Arithmetic {
     Times,
     Divide,
@@ -35,14 +35,14 @@ pub enum Arithmetic {
     Minus,
 }
 
-#[derive(Clone, Copy)]
+#[derive(Clone, Copy, PartialEq, Eq, Debug)]
 pub enum Shift {
     Left,
     Right,
     UnsignedRight,
 }
 
-#[derive(Clone, Copy)]
+#[derive(Clone, Copy, PartialEq, Eq, Debug)]
 pub enum Comparison {
     Less,
     LessOrEqual,
@@ -50,44 +50,77 @@ pub enum Comparison {
     GreaterOrEqual,
 }
 
-#[derive(Clone, Copy)]
+#[derive(Clone, Copy, PartialEq, Eq, Debug)]
 pub enum Equality {
     Equal,
     NotEqual,
 }
 
 // Bit by bit on numbers, logical on booleans.
-#[derive(Clone, Copy)]
+#[derive(Clone, Copy, PartialEq, Eq, Debug)]
 pub enum Bitwise {
     And,
     Xor,
     Or,
 }
 
-impl Unary {
-    // The operator that a code names: 0 to 3, or 16 more than the code of the numeric type to which a cast goes.
-    pub fn from_code(code: u8) -> Option<Unary>
-        ensures value { result ≡ unary_of code }
-        ensures named { (o : Unary) → (result ≡ Some o → code ≡ unary_code o) × (code ≡ unary_code o → result ≡ Some o) }
-    {
+// 0 to 3, or 16 more than the code of the numeric type to which a cast goes.
+impl TryFrom<u8> for Unary {
+    type Error = UnknownCode;
+
+    ghost try_from_gives = { Decodes unary_of unary_code };
+
+    fn try_from(code: u8) -> Result<Unary, UnknownCode> {
         match code {
-            0 => Some(Unary::Plus),
-            1 => Some(Unary::Minus),
-            2 => Some(Unary::Complement),
-            3 => Some(Unary::Not),
-            17 => Some(Unary::Cast(Numeric::Byte)),
-            18 => Some(Unary::Cast(Numeric::Short)),
-            19 => Some(Unary::Cast(Numeric::Char)),
-            20 => Some(Unary::Cast(Numeric::Int)),
-            21 => Some(Unary::Cast(Numeric::Long)),
-            _ => None,
+            0 => Ok(Unary::Plus),
+            1 => Ok(Unary::Minus),
+            2 => Ok(Unary::Complement),
+            3 => Ok(Unary::Not),
+            17 => Ok(Unary::Cast(Numeric::Byte)),
+            18 => Ok(Unary::Cast(Numeric::Short)),
+            19 => Ok(Unary::Cast(Numeric::Char)),
+            20 => Ok(Unary::Cast(Numeric::Int)),
+            21 => Ok(Unary::Cast(Numeric::Long)),
+            _ => Err(UnknownCode(code)),
         }
     }
+}
 
-    fn symbol(self) -> &'static str
-        ensures { result.now ≡ unary_symbol self }
-    {
-        match self {
+// No code is above 16.
+impl TryFrom<u8> for Binary {
+    type Error = UnknownCode;
+
+    ghost try_from_gives = { Decodes binary_of binary_code };
+
+    fn try_from(code: u8) -> Result<Binary, UnknownCode> {
+        match code {
+            0 => Ok(Binary::Arithmetic(Arithmetic::Times)),
+            1 => Ok(Binary::Arithmetic(Arithmetic::Divide)),
+            2 => Ok(Binary::Arithmetic(Arithmetic::Remainder)),
+            3 => Ok(Binary::Arithmetic(Arithmetic::Plus)),
+            4 => Ok(Binary::Arithmetic(Arithmetic::Minus)),
+            5 => Ok(Binary::Shift(Shift::Left)),
+            6 => Ok(Binary::Shift(Shift::Right)),
+            7 => Ok(Binary::Shift(Shift::UnsignedRight)),
+            8 => Ok(Binary::Comparison(Comparison::Less)),
+            9 => Ok(Binary::Comparison(Comparison::LessOrEqual)),
+            10 => Ok(Binary::Comparison(Comparison::Greater)),
+            11 => Ok(Binary::Comparison(Comparison::GreaterOrEqual)),
+            12 => Ok(Binary::Equality(Equality::Equal)),
+            13 => Ok(Binary::Equality(Equality::NotEqual)),
+            14 => Ok(Binary::Bitwise(Bitwise::And)),
+            15 => Ok(Binary::Bitwise(Bitwise::Xor)),
+            16 => Ok(Binary::Bitwise(Bitwise::Or)),
+            _ => Err(UnknownCode(code)),
+        }
+    }
+}
+
+impl fmt::Display for Unary {
+    ghost output = { λ o. Some (unary_symbol o) };
+
+    fn fmt<W: fmt::Write>(&self, f: &mut fmt::Formatter<W>) -> fmt::Result {
+        f.write_str(match self {
             Unary::Plus => "+",
             Unary::Minus => "-",
             Unary::Complement => "~",
@@ -97,42 +130,15 @@ impl Unary {
             Unary::Cast(Numeric::Char) => "(char)",
             Unary::Cast(Numeric::Int) => "(int)",
             Unary::Cast(Numeric::Long) => "(long)",
-        }
+        })
     }
 }
 
-impl Binary {
-    // The operator that a code names; none above 16.
-    pub fn from_code(code: u8) -> Option<Binary>
-        ensures value { result ≡ binary_of code }
-        ensures named { (o : Binary) → (result ≡ Some o → code ≡ binary_code o) × (code ≡ binary_code o → result ≡ Some o) }
-    {
-        match code {
-            0 => Some(Binary::Arithmetic(Arithmetic::Times)),
-            1 => Some(Binary::Arithmetic(Arithmetic::Divide)),
-            2 => Some(Binary::Arithmetic(Arithmetic::Remainder)),
-            3 => Some(Binary::Arithmetic(Arithmetic::Plus)),
-            4 => Some(Binary::Arithmetic(Arithmetic::Minus)),
-            5 => Some(Binary::Shift(Shift::Left)),
-            6 => Some(Binary::Shift(Shift::Right)),
-            7 => Some(Binary::Shift(Shift::UnsignedRight)),
-            8 => Some(Binary::Comparison(Comparison::Less)),
-            9 => Some(Binary::Comparison(Comparison::LessOrEqual)),
-            10 => Some(Binary::Comparison(Comparison::Greater)),
-            11 => Some(Binary::Comparison(Comparison::GreaterOrEqual)),
-            12 => Some(Binary::Equality(Equality::Equal)),
-            13 => Some(Binary::Equality(Equality::NotEqual)),
-            14 => Some(Binary::Bitwise(Bitwise::And)),
-            15 => Some(Binary::Bitwise(Bitwise::Xor)),
-            16 => Some(Binary::Bitwise(Bitwise::Or)),
-            _ => None,
-        }
-    }
+impl fmt::Display for Binary {
+    ghost output = { λ o. Some (binary_symbol o) };
 
-    fn symbol(self) -> &'static str
-        ensures { result.now ≡ binary_symbol self }
-    {
-        match self {
+    fn fmt<W: fmt::Write>(&self, f: &mut fmt::Formatter<W>) -> fmt::Result {
+        f.write_str(match self {
             Binary::Arithmetic(Arithmetic::Times) => "*",
             Binary::Arithmetic(Arithmetic::Divide) => "/",
             Binary::Arithmetic(Arithmetic::Remainder) => "%",
@@ -150,22 +156,6 @@ impl Binary {
             Binary::Bitwise(Bitwise::And) => "&",
             Binary::Bitwise(Bitwise::Xor) => "^",
             Binary::Bitwise(Bitwise::Or) => "|",
-        }
-    }
-}
-
-impl fmt::Display for Unary {
-    ghost output = { λ o. Some (unary_symbol o) };
-
-    fn fmt<W: fmt::Write>(&self, f: &mut fmt::Formatter<W>) -> fmt::Result {
-        f.write_str(self.symbol())
-    }
-}
-
-impl fmt::Display for Binary {
-    ghost output = { λ o. Some (binary_symbol o) };
-
-    fn fmt<W: fmt::Write>(&self, f: &mut fmt::Formatter<W>) -> fmt::Result {
-        f.write_str(self.symbol())
+        })
     }
 }

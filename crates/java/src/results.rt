@@ -1,22 +1,40 @@
 // What the operators give on values. A number is computed in 64 bits, of which the result's type keeps the low ones.
-ghost use Rattle.std.specs.Prelude.{◌≡◌, ◌-◌, ◌/◌, ◌^◌, ◌<◌, pos, if◌then◌else◌, Some, None, int_div, int_rem};
-ghost use Rattle.std.proofs.Common.{of_z, to_z};
+ghost use Rattle.std.specs.Prelude.{◌≡◌, ◌-◌, ◌/◌, ◌^◌, ◌<◌, Bool, ℤ, pos, if◌then◌else◌, Some, None, Option};
 ghost use Rattle.std.specs.Int.{int_wrap, w64};
-ghost use Rattle.java.specs.Values.{residue, width, value_of};
-ghost use Rattle.java.specs.Results.{unary_value, arithmetic, is_zero, zero_divisor, arithmetic_value, distance_bits, distance, shifted, shift_value, compared, comparison_value, equal, equality_value, bitwise, logical, bitwise_value, binary_value};
+ghost use Rattle.std.specs.Option.{ok_or, option_map};
+ghost use Rattle.java.specs.declared.results.NoValue.TheVariants.{Untyped};
+ghost use Rattle.java.specs.declared.values.Value.TheVariants as V;
+ghost use Rattle.java.specs.Typing.{promoted, promoted_pair};
+ghost use Rattle.java.specs.Values.{residue, width, value_of, value_type};
+ghost use Rattle.java.specs.Results.{unary_value, arithmetic, zero_divisor, arithmetic_value, distance_bits, distance, shifted, shift_value, compared, equal, bitwise, logical, bitwise_value, binary_value, no_value_text};
 ghost use Rattle.java.specs.Laws.{UnaryLawful, BinaryLawful};
 
 use crate::operators::{Arithmetic, Binary, Bitwise, Comparison, Equality, Shift, Unary};
-use crate::types::Numeric;
+use crate::types::{Numeric, Primitive};
 use crate::typing::{comparison_type, equality_type};
 use crate::values::Value;
+use std::error::Error;
+use std::fmt;
 
 // Why an operator gives no value: no typing rule fits its operands, or it divides by zero.
-#[derive(Clone, Copy)]
+#[derive(Clone, Copy, PartialEq, Eq, Debug)]
 pub enum NoValue {
     Untyped,
     ZeroDivisor,
 }
+
+impl fmt::Display for NoValue {
+    ghost output = { λ why. Some (no_value_text why) };
+
+    fn fmt<W: fmt::Write>(&self, f: &mut fmt::Formatter<W>) -> fmt::Result {
+        f.write_str(match self {
+            NoValue::Untyped => "no type",
+            NoValue::ZeroDivisor => "zero divisor",
+        })
+    }
+}
+
+impl Error for NoValue {}
 
 impl Unary {
     // The value on this operand; none where no typing rule fits.
@@ -25,43 +43,30 @@ impl Unary {
         ensures lawful { UnaryLawful self operand result }
     {
         match self {
-            Unary::Plus => plus(operand),
-            Unary::Minus => minus(operand),
-            Unary::Complement => complement(operand),
+            Unary::Plus => at_promoted(operand, operand.number()),
+            Unary::Minus => at_promoted(operand, operand.number().wrapping_neg()),
+            Unary::Complement => at_promoted(operand, !operand.number()),
             Unary::Not => not(operand),
             Unary::Cast(kind) => cast(kind, operand),
         }
     }
 }
 
-fn plus(operand: Value) -> Option<Value>
-    ensures { result ≡ unary_value Unary.Plus operand }
+// The value that a number gives at the type to which an operand is promoted.
+fn at_promoted(operand: Value, number: i64) -> Option<Value>
+    ensures { result ≡ option_map (λ n. value_of n number) (promoted (value_type operand)) }
 {
     let kind = operand.primitive().promoted()?;
-    Some(Value::from_low_bits(kind, operand.number()))
-}
-
-fn minus(operand: Value) -> Option<Value>
-    ensures { result ≡ unary_value Unary.Minus operand }
-{
-    let kind = operand.primitive().promoted()?;
-    Some(Value::from_low_bits(kind, operand.number().wrapping_neg()))
-}
-
-fn complement(operand: Value) -> Option<Value>
-    ensures { result ≡ unary_value Unary.Complement operand }
-{
-    let kind = operand.primitive().promoted()?;
-    Some(Value::from_low_bits(kind, !operand.number()))
+    Some(Value::from_low_bits(kind, number))
 }
 
 fn not(operand: Value) -> Option<Value>
     ensures { result ≡ unary_value Unary.Not operand }
 {
-    match operand {
-        Value::Boolean(b) => Some(Value::Boolean(!b)),
-        _ => None,
-    }
+    let Value::Boolean(b) = operand else {
+        return None;
+    };
+    Some(Value::Boolean(!b))
 }
 
 fn cast(kind: Numeric, operand: Value) -> Option<Value>
@@ -80,26 +85,45 @@ impl Binary {
         match self {
             Binary::Arithmetic(operator) => operator.apply(left, right),
             Binary::Shift(operator) => operator.apply(left, right),
-            Binary::Comparison(operator) => operator.apply(left, right),
-            Binary::Equality(operator) => operator.apply(left, right),
+            Binary::Comparison(operator) => truth(
+                comparison_type(left.primitive(), right.primitive()),
+                operator.holds(left.number(), right.number()),
+            ),
+            Binary::Equality(operator) => truth(
+                equality_type(left.primitive(), right.primitive()),
+                operator.holds(left.number(), right.number()),
+            ),
             Binary::Bitwise(operator) => operator.apply(left, right),
         }
     }
+}
+
+// Whether something holds of two operands, where a rule types that.
+fn truth(typed: Option<Primitive>, holds: bool) -> Result<Value, NoValue>
+    ensures { result ≡ ok_or (option_map (λ _. V.Boolean holds) typed) Untyped }
+{
+    typed.ok_or(NoValue::Untyped)?;
+    Ok(Value::Boolean(holds))
+}
+
+// The type to which both operands are promoted.
+fn both_promoted(left: Value, right: Value) -> Option<Numeric>
+    ensures { result ≡ promoted_pair (value_type left) (value_type right) }
+{
+    left.primitive().promoted_with(right.primitive())
 }
 
 impl Arithmetic {
     fn apply(self, left: Value, right: Value) -> Result<Value, NoValue>
         ensures { result ≡ arithmetic_value self left right }
     {
-        match left.primitive().promoted_with(right.primitive()) {
-            Some(kind) => self
-                .apply_at(kind, left.number(), right.number())
-                .ok_or(NoValue::ZeroDivisor),
-            None => Err(NoValue::Untyped),
-        }
+        let kind = both_promoted(left, right).ok_or(NoValue::Untyped)?;
+        self.apply_at(kind, left.number(), right.number())
+            .ok_or(NoValue::ZeroDivisor)
     }
 
     // On operands promoted to this type; none where it divides by zero.
+    #[tactic(auto, using(std::proofs::lemmas::Int::wraps, crate::proofs::Wrapping::value_of_wrapped))]
     fn apply_at(self, kind: Numeric, a: i64, b: i64) -> Option<Value>
         ensures { result ≡ (if zero_divisor self b then None else Some (value_of kind (arithmetic self a b))) }
     {
@@ -108,37 +132,26 @@ impl Arithmetic {
     }
 
     // The low 64 bits of the result; none where it divides by zero.
+    #[tactic(auto, using(std::proofs::lemmas::Int::wraps, crate::proofs::Division::quotient_wraps))]
     fn number(self, a: i64, b: i64) -> Option<i64>
         ensures { result ≡ (if zero_divisor self b then None else Some (int_wrap w64 (arithmetic self a b))) }
     {
         match self {
             Arithmetic::Times => Some(a.wrapping_mul(b)),
-            Arithmetic::Divide => quotient(a, b),
-            Arithmetic::Remainder => remainder(a, b),
+            Arithmetic::Divide if b != 0 => Some(a.wrapping_div(b)),
+            Arithmetic::Remainder if b != 0 => Some(a.wrapping_rem(b)),
+            Arithmetic::Divide | Arithmetic::Remainder => None,
             Arithmetic::Plus => Some(a.wrapping_add(b)),
             Arithmetic::Minus => Some(a.wrapping_sub(b)),
         }
     }
 }
 
-// Rounded toward zero, as its 64 bits are read; none if b is zero.
-fn quotient(a: i64, b: i64) -> Option<i64>
-    ensures { result ≡ (if is_zero b then None else Some (to_z w64 (of_z w64 (int_div a b)))) }
-{
-    if b == 0 {
-        return None;
-    }
-    Some(a.wrapping_div(b))
-}
-
-// With the sign of a; none if b is zero.
-fn remainder(a: i64, b: i64) -> Option<i64>
-    ensures { result ≡ (if is_zero b then None else Some (int_rem a b)) }
-{
-    if b == 0 {
-        return None;
-    }
-    Some(a.wrapping_rem(b))
+// How far a shift moves a number: less than the 64 bits in which it is computed.
+#[derive(Clone, Copy)]
+struct Distance {
+    bits: u32,
+    ghost short: { bits < 64 },
 }
 
 impl Shift {
@@ -153,6 +166,7 @@ impl Shift {
     }
 
     // On a left operand promoted to this type.
+    #[tactic(auto, using(std::proofs::lemmas::Int::wraps, crate::proofs::Wrapping::value_of_wrapped))]
     fn apply_at(self, kind: Numeric, a: i64, count: i64) -> Value
         ensures { result ≡ value_of kind (shifted self kind a (distance kind count)) }
     {
@@ -161,13 +175,13 @@ impl Shift {
     }
 
     // The low 64 bits of the result.
-    fn number(self, kind: Numeric, a: i64, distance: u32) -> i64
-        requires { distance < 64 }
-        ensures { result ≡ int_wrap w64 (shifted self kind a distance) }
+    #[tactic(auto, using(crate::proofs::Shifts::shift_steps))]
+    fn number(self, kind: Numeric, a: i64, distance: Distance) -> i64
+        ensures { result ≡ int_wrap w64 (shifted self kind a distance.bits) }
     {
         match self {
-            Shift::Left => a.wrapping_shl(distance),
-            Shift::Right => a.wrapping_shr(distance),
+            Shift::Left => a.wrapping_shl(distance.bits),
+            Shift::Right => a.wrapping_shr(distance.bits),
             Shift::UnsignedRight => kind.unsigned_shift_right(a, distance).cast_signed(),
         }
     }
@@ -175,11 +189,13 @@ impl Shift {
 
 impl Numeric {
     // By how far a shift moves a number of this type.
-    fn distance(self, count: i64) -> u32
-        ensures value { result ≡ distance self count }
-        ensures below { result < 64 }
+    #[tactic(auto, using(std::proofs::lemmas::Int::wraps, crate::proofs::Wrapping::masked))]
+    fn distance(self, count: i64) -> Distance
+        ensures { result.bits ≡ distance self count }
     {
-        (count.cast_unsigned() & self.distance_mask()) as u32
+        Distance {
+            bits: (count.cast_unsigned() & self.distance_mask()) as u32,
+        }
     }
 
     // Ones in the low bits of a count that a shift goes by.
@@ -193,22 +209,14 @@ impl Numeric {
     }
 
     // The bits of a number of this type, moved to the right, with zeros to their left.
-    fn unsigned_shift_right(self, number: i64, distance: u32) -> u64
-        requires { distance < 64 }
-        ensures { result ≡ residue (width self) number / 2 ^ distance }
+    fn unsigned_shift_right(self, number: i64, distance: Distance) -> u64
+        ensures { result ≡ residue (width self) number / 2 ^ distance.bits }
     {
-        self.low_bits(number) >> distance
+        self.low_bits(number) >> distance.bits
     }
 }
 
 impl Comparison {
-    fn apply(self, left: Value, right: Value) -> Result<Value, NoValue>
-        ensures { result ≡ comparison_value self left right }
-    {
-        comparison_type(left.primitive(), right.primitive()).ok_or(NoValue::Untyped)?;
-        Ok(Value::Boolean(self.holds(left.number(), right.number())))
-    }
-
     fn holds(self, a: i64, b: i64) -> bool
         ensures { result ≡ compared self a b }
     {
@@ -222,13 +230,6 @@ impl Comparison {
 }
 
 impl Equality {
-    fn apply(self, left: Value, right: Value) -> Result<Value, NoValue>
-        ensures { result ≡ equality_value self left right }
-    {
-        equality_type(left.primitive(), right.primitive()).ok_or(NoValue::Untyped)?;
-        Ok(Value::Boolean(self.holds(left.number(), right.number())))
-    }
-
     fn holds(self, a: i64, b: i64) -> bool
         ensures { result ≡ equal self a b }
     {
@@ -246,24 +247,19 @@ impl Bitwise {
         if let (Value::Boolean(a), Value::Boolean(b)) = (left, right) {
             return Ok(Value::Boolean(self.logical(a, b)));
         }
-        let kind = left
-            .primitive()
-            .promoted_with(right.primitive())
-            .ok_or(NoValue::Untyped)?;
+        let kind = both_promoted(left, right).ok_or(NoValue::Untyped)?;
         Ok(self.apply_at(kind, left.number(), right.number()))
     }
 
+    // On booleans, each as a number of one bit.
     fn logical(self, a: bool, b: bool) -> bool
         ensures { result ≡ logical self a b }
     {
-        match self {
-            Bitwise::And => a & b,
-            Bitwise::Xor => a ^ b,
-            Bitwise::Or => a | b,
-        }
+        self.bits(u64::from(a), u64::from(b)) == 1
     }
 
     // On operands promoted to this type.
+    #[tactic(auto, using(std::proofs::lemmas::Int::wraps, crate::proofs::Wrapping::value_of_read))]
     fn apply_at(self, kind: Numeric, a: i64, b: i64) -> Value
         ensures { result ≡ value_of kind (pos (bitwise self (residue (width kind) a) (residue (width kind) b))) }
     {

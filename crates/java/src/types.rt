@@ -1,38 +1,26 @@
 // The primitive types, each with its keyword and with the code that stands for it in stored data.
-ghost use Rattle.std.specs.Prelude.{◌≡◌, true, [], ◌∷◌, Some};
+ghost use Rattle.std.specs.Prelude.{◌≡◌, ◌↔◌, [], ◌∷◌, Some, IsTrue};
 ghost use Rattle.java.specs.declared.types.Primitive.{Primitive};
 ghost use Rattle.java.specs.declared.types.Numeric.{Numeric};
+ghost use Rattle.java.specs.Codes.{Decodes};
 ghost use Rattle.java.specs.Types.{type_code, type_name, type_of, primitive, numeric, widest};
 ghost use Rattle.java.specs.Subtypes.{◌≼◌, subtype};
 
-use std::convert::From;
+use crate::codes::UnknownCode;
 use std::fmt;
 
 #[derive(Clone, Copy, PartialEq, Eq, Debug)]
 pub enum Primitive {
-    Boolean,
-    Byte,
-    Short,
-    Char,
-    Int,
-    Long,
+    Boolean = 0,
+    Byte = 1,
+    Short = 2,
+    Char = 3,
+    Int = 4,
+    Long = 5,
 }
 
 impl Primitive {
-    pub fn code(self) -> u8
-        ensures { result ≡ type_code self }
-    {
-        match self {
-            Primitive::Boolean => 0,
-            Primitive::Byte => 1,
-            Primitive::Short => 2,
-            Primitive::Char => 3,
-            Primitive::Int => 4,
-            Primitive::Long => 5,
-        }
-    }
-
-    // The keyword of the type in Java.
+    // The keyword of the type in Java, for those who have no formatter.
     pub fn name(self) -> &'static str
         ensures { result.now ≡ type_name self }
     {
@@ -46,26 +34,10 @@ impl Primitive {
         }
     }
 
-    // The type that a code names; none above 5.
-    pub fn from_code(code: u8) -> Option<Primitive>
-        ensures value { result ≡ type_of code }
-        ensures named { (t : Primitive) → (result ≡ Some t → code ≡ type_code t) × (code ≡ type_code t → result ≡ Some t) }
-    {
-        match code {
-            0 => Some(Primitive::Boolean),
-            1 => Some(Primitive::Byte),
-            2 => Some(Primitive::Short),
-            3 => Some(Primitive::Char),
-            4 => Some(Primitive::Int),
-            5 => Some(Primitive::Long),
-            _ => None,
-        }
-    }
-
-    // This type as a numeric one; none for boolean.
+    // This type as a numeric one; none for boolean, of which an error would say no more.
     pub fn numeric(self) -> Option<Numeric>
         ensures value { result ≡ numeric self }
-        ensures among { (n : Numeric) → (result ≡ Some n → self ≡ primitive n) × (self ≡ primitive n → result ≡ Some n) }
+        ensures among { (n : Numeric) → (result ≡ Some n) ↔ (self ≡ primitive n) }
     {
         match self {
             Primitive::Boolean => None,
@@ -77,17 +49,12 @@ impl Primitive {
         }
     }
 
-    // Whether every number of this type is one of the other; boolean is a subtype of itself alone.
+    // Whether every number of this type is one of the other; boolean is a subtype of itself alone. By name and not by `<`,
+    // which would not say which order.
+    #[tactic(auto, using(crate::proofs::Subtypes::exactly))]
     pub fn is_subtype_of(self, other: Primitive) -> bool
         ensures value { result ≡ subtype self other }
-        ensures exact { (result ≡ true → self ≼ other) × (self ≼ other → result ≡ true) }
-    {
-        self.has_above(other)
-    }
-
-    // Whether the other type is among those at or above this one.
-    fn has_above(self, other: Primitive) -> bool
-        ensures { result ≡ subtype self other }
+        ensures exact { IsTrue result ↔ (self ≼ other) }
     {
         match self {
             Primitive::Boolean => matches!(other, Primitive::Boolean),
@@ -106,8 +73,8 @@ impl Primitive {
     }
 }
 
-// The types of numbers: every type but boolean.
-#[derive(Clone, Copy)]
+// The types of numbers: every type but boolean. A type of its own, so that a cast to boolean can't be written.
+#[derive(Clone, Copy, PartialEq, Eq, Debug)]
 pub enum Numeric {
     Byte,
     Short,
@@ -131,9 +98,33 @@ impl Numeric {
     pub fn promoted(self) -> Numeric
         ensures value { result ≡ widest (self ∷ []) }
     {
-        match self {
-            Numeric::Long => Numeric::Long,
-            _ => Numeric::Int,
+        self.widest(Numeric::Int)
+    }
+}
+
+impl From<Primitive> for u8 {
+    ghost from_gives = { λ t r. r ≡ type_code t };
+
+    fn from(t: Primitive) -> u8 {
+        t as u8
+    }
+}
+
+// No code is above 5.
+impl TryFrom<u8> for Primitive {
+    type Error = UnknownCode;
+
+    ghost try_from_gives = { Decodes type_of type_code };
+
+    fn try_from(code: u8) -> Result<Primitive, UnknownCode> {
+        match code {
+            0 => Ok(Primitive::Boolean),
+            1 => Ok(Primitive::Byte),
+            2 => Ok(Primitive::Short),
+            3 => Ok(Primitive::Char),
+            4 => Ok(Primitive::Int),
+            5 => Ok(Primitive::Long),
+            _ => Err(UnknownCode(code)),
         }
     }
 }

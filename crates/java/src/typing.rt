@@ -1,5 +1,5 @@
 // The typing rules of the operators: the type of a result, or none where no rule fits.
-ghost use Rattle.std.specs.Prelude.{◌≡◌, Some};
+ghost use Rattle.std.specs.Prelude.{◌≡◌, ◌↔◌, Some};
 ghost use Rattle.std.specs.Option.{option_map};
 ghost use Rattle.java.specs.declared.types.Primitive.{Primitive};
 ghost use Rattle.java.specs.Types.{primitive};
@@ -13,7 +13,7 @@ impl Primitive {
     pub(crate) fn promoted(self) -> Option<Numeric>
         ensures { result ≡ promoted self }
     {
-        Some(self.numeric()?.promoted())
+        self.numeric().map(Numeric::promoted)
     }
 
     // The type to which an operator promotes operands of these two types; none if one is boolean.
@@ -34,31 +34,25 @@ impl Primitive {
 
 impl Unary {
     // The type of the result on an operand of this type.
+    #[tactic(auto, using(crate::proofs::Rules::unary_exactly))]
     pub fn result_type(self, operand: Primitive) -> Option<Primitive>
         ensures value { result ≡ unary_type self operand }
-        ensures exact { (t : Primitive) → (result ≡ Some t → UnaryRule self operand t) × (UnaryRule self operand t → result ≡ Some t) }
+        ensures exact { (t : Primitive) → (result ≡ Some t) ↔ UnaryRule self operand t }
     {
         match self {
-            Unary::Plus | Unary::Minus | Unary::Complement => promoted_type(operand),
+            Unary::Plus | Unary::Minus | Unary::Complement => {
+                operand.promoted().map(Primitive::from)
+            }
             Unary::Not => not_type(operand),
             Unary::Cast(to) => cast_type(to, operand),
         }
     }
 }
 
-fn promoted_type(operand: Primitive) -> Option<Primitive>
-    ensures { result ≡ option_map primitive (promoted operand) }
-{
-    Some(Primitive::from(operand.promoted()?))
-}
-
 fn not_type(operand: Primitive) -> Option<Primitive>
     ensures { result ≡ not_type operand }
 {
-    match operand {
-        Primitive::Boolean => Some(Primitive::Boolean),
-        _ => None,
-    }
+    (operand == Primitive::Boolean).then_some(Primitive::Boolean)
 }
 
 fn cast_type(to: Numeric, operand: Primitive) -> Option<Primitive>
@@ -70,13 +64,14 @@ fn cast_type(to: Numeric, operand: Primitive) -> Option<Primitive>
 
 impl Binary {
     // The type of the result on operands of these types.
+    #[tactic(auto, using(crate::proofs::Rules::binary_exactly))]
     pub fn result_type(self, left: Primitive, right: Primitive) -> Option<Primitive>
         ensures value { result ≡ binary_type self left right }
-        ensures exact { (t : Primitive) → (result ≡ Some t → BinaryRule self left right t) × (BinaryRule self left right t → result ≡ Some t) }
+        ensures exact { (t : Primitive) → (result ≡ Some t) ↔ BinaryRule self left right t }
     {
         match self {
             Binary::Arithmetic(_) => arithmetic_type(left, right),
-            Binary::Shift(_) => shift_type(left, right),
+            Binary::Shift(_) => left.promoted_for_shift(right).map(Primitive::from),
             Binary::Comparison(_) => comparison_type(left, right),
             Binary::Equality(_) => equality_type(left, right),
             Binary::Bitwise(_) => bitwise_type(left, right),
@@ -87,13 +82,7 @@ impl Binary {
 fn arithmetic_type(left: Primitive, right: Primitive) -> Option<Primitive>
     ensures { result ≡ option_map primitive (promoted_pair left right) }
 {
-    Some(Primitive::from(left.promoted_with(right)?))
-}
-
-fn shift_type(left: Primitive, right: Primitive) -> Option<Primitive>
-    ensures { result ≡ option_map primitive (promoted_shift left right) }
-{
-    Some(Primitive::from(left.promoted_for_shift(right)?))
+    left.promoted_with(right).map(Primitive::from)
 }
 
 pub(crate) fn comparison_type(left: Primitive, right: Primitive) -> Option<Primitive>
@@ -106,11 +95,8 @@ pub(crate) fn comparison_type(left: Primitive, right: Primitive) -> Option<Primi
 pub(crate) fn equality_type(left: Primitive, right: Primitive) -> Option<Primitive>
     ensures { result ≡ equality_type left right }
 {
-    if left.is_subtype_of(right) || right.is_subtype_of(left) {
-        Some(Primitive::Boolean)
-    } else {
-        None
-    }
+    let comparable = left.is_subtype_of(right) || right.is_subtype_of(left);
+    comparable.then_some(Primitive::Boolean)
 }
 
 fn bitwise_type(left: Primitive, right: Primitive) -> Option<Primitive>

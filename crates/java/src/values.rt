@@ -5,7 +5,7 @@ ghost use Rattle.java.specs.Values.{value_type, number, least, greatest, InRange
 use crate::types::{Numeric, Primitive};
 use std::fmt;
 
-#[derive(Clone, Copy)]
+#[derive(Clone, Copy, PartialEq, Eq, Debug)]
 pub enum Value {
     Boolean(bool),
     Byte(i8),
@@ -50,11 +50,10 @@ impl Value {
         ensures value { result ≡ new_value of number }
         ensures exact { Constructed of number result }
     {
-        if of.least() <= number && number <= of.greatest() {
-            Some(Value::with_number(of, number))
-        } else {
-            None
-        }
+        let numbers = of.least()..=of.greatest();
+        numbers
+            .contains(&number)
+            .then_some(Value::with_number(of, number))
     }
 
     // The value with a number of the type.
@@ -96,6 +95,7 @@ impl Value {
     }
 
     // The value of a numeric type that the low bits of a number give.
+    #[tactic(auto, using(std::proofs::lemmas::Int::wraps, crate::proofs::Wrapping::low_read))]
     pub(crate) fn from_low_bits(kind: Numeric, number: i64) -> Value
         ensures { result ≡ value_of kind number }
     {
@@ -112,6 +112,7 @@ impl Value {
 
 impl Numeric {
     // As many of the low bits of a number as this type keeps.
+    #[tactic(auto, using(std::proofs::lemmas::Int::wraps, crate::proofs::Wrapping::masked, crate::proofs::Residues::residue_below))]
     pub(crate) fn low_bits(self, number: i64) -> u64
         ensures value { result ≡ residue (width self) number }
         ensures below { result < 2 ^ width self }

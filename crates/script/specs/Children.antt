@@ -25,7 +25,6 @@ children_of Block = None
 children_of (Declaration x) = Some []
 
 abbrev pub is_expression : Construct → Bool
-is_expression Empty = false
 is_expression (Literal v) = true
 is_expression (Local x) = true
 is_expression (Unary o) = true
@@ -33,25 +32,11 @@ is_expression (Binary o) = true
 is_expression Conditional = true
 is_expression (Assignment x) = true
 is_expression (Reading k) = true
-is_expression Expression = false
-is_expression (Labelled l) = false
-is_expression (Break l) = false
-is_expression (Continue l) = false
-is_expression If = false
-is_expression While = false
-is_expression Block = false
-is_expression (Declaration x) = false
+is_expression _ = false
 
 -- a declaration is neither an expression nor a statement
 abbrev pub is_statement : Construct → Bool
 is_statement Empty = true
-is_statement (Literal v) = false
-is_statement (Local x) = false
-is_statement (Unary o) = false
-is_statement (Binary o) = false
-is_statement Conditional = false
-is_statement (Assignment x) = false
-is_statement (Reading k) = false
 is_statement Expression = true
 is_statement (Labelled l) = true
 is_statement (Break l) = true
@@ -59,25 +44,11 @@ is_statement (Continue l) = true
 is_statement If = true
 is_statement While = true
 is_statement Block = true
-is_statement (Declaration x) = false
+is_statement _ = false
 
 abbrev pub is_assignment : Construct → Bool
-is_assignment Empty = false
-is_assignment (Literal v) = false
-is_assignment (Local x) = false
-is_assignment (Unary o) = false
-is_assignment (Binary o) = false
-is_assignment Conditional = false
 is_assignment (Assignment x) = true
-is_assignment (Reading k) = false
-is_assignment Expression = false
-is_assignment (Labelled l) = false
-is_assignment (Break l) = false
-is_assignment (Continue l) = false
-is_assignment If = false
-is_assignment While = false
-is_assignment Block = false
-is_assignment (Declaration x) = false
+is_assignment _ = false
 
 -- whether a construct can stand where a child of this sort is due
 abbrev pub is_of_sort : Sort → Construct → Bool

@@ -6,6 +6,7 @@ use Rattle.java.specs.declared.types.Primitive.TheVariants as P
 use Rattle.java.specs.Types.{type_of}
 use Rattle.java.specs.Values.{new_value}
 use Rattle.java.specs.Operators.{unary_of, binary_of}
+use Rattle.java.specs.Results.{is_zero}
 use Rattle.script.specs.declared.kind.Kind.{Kind}
 use Rattle.script.specs.declared.kind.Kind.TheVariants as K
 use Rattle.script.specs.declared.construct.Construct.{Construct}
@@ -17,11 +18,6 @@ use Rattle.script.specs.Kinds.{kind_of}
 abbrev pub index_below : ℕ → ℤ → Option ℕ
 index_below limit (pos n) = cond (nat_lt n limit) (Some n) None
 index_below limit (negsuc n) = None
-
--- whether a number is 0, as it is where a kind gives it no meaning
-abbrev pub is_zero : ℤ → Bool
-is_zero (pos n) = n == 0
-is_zero (negsuc n) = false
 
 -- the types of which there are literals
 abbrev pub has_literals : Primitive → Bool
@@ -73,19 +69,11 @@ construct_of locals labels node = of_kind locals labels (kind_of node.kind) node
 
 -- the local, label or channel that a construct names is one of the script's
 abbrev pub InSection : ℕ → ℕ → Construct → Type 0
-InSection locals labels Empty = Unit {0}
-InSection locals labels (Literal v) = Unit {0}
 InSection locals labels (Local x) = x.0 < locals
-InSection locals labels (Unary o) = Unit {0}
-InSection locals labels (Binary o) = Unit {0}
-InSection locals labels Conditional = Unit {0}
 InSection locals labels (Assignment x) = x.0 < locals
 InSection locals labels (Reading k) = k.0 < 8
-InSection locals labels Expression = Unit {0}
 InSection locals labels (Labelled l) = l.0 < labels
 InSection locals labels (Break l) = l.0 < labels
 InSection locals labels (Continue l) = l.0 < labels
-InSection locals labels If = Unit {0}
-InSection locals labels While = Unit {0}
-InSection locals labels Block = Unit {0}
 InSection locals labels (Declaration x) = x.0 < locals
+InSection locals labels _ = Unit {0}

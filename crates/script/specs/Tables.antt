@@ -24,7 +24,7 @@ empty_script = record { locals = []; labels = 0; nodes = empty_block ∷ [] }
 abbrev pub over_limits : Script → Bool
 over_limits s = nat_lt 64 (length s.locals) || (nat_lt 32 s.labels || (nat_lt (length s.nodes) 1 || nat_lt 1024 (length s.nodes)))
 
--- what a table that holds `old` answers when it is given `new`
+-- what a table answers when it is given `new`
 abbrev pub held : Script → Result (Unit {0}) OverLimits
 held new = cond (over_limits new) (Err (record {})) (Ok tt)
 

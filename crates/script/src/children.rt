@@ -5,7 +5,7 @@ ghost use Rattle.script.specs.Children.{children_of, is_assignment, is_expressio
 use crate::construct::Construct;
 
 // What can be due as a child.
-#[derive(Clone, Copy)]
+#[derive(Clone, Copy, PartialEq, Eq, Debug)]
 pub enum Sort {
     Expression,
     Statement,

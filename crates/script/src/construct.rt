@@ -1,16 +1,15 @@
 // What a node stands for: its kind, with its detail and number taken for what they mean.
-ghost use Rattle.std.specs.Prelude.{◌≡◌, Some};
+ghost use Rattle.std.specs.Prelude.{◌≡◌};
 ghost use Rattle.java.specs.Types.{type_of};
-ghost use Rattle.java.specs.Operators.{unary_of, binary_of};
-ghost use Rattle.script.specs.Constructs.{bare, construct_of, has_literals, index_below, index_of, is_zero, literal_at, of_kind, unnumbered};
+ghost use Rattle.script.specs.Constructs.{bare, construct_of, has_literals, index_of, literal_at, unnumbered};
 
 use crate::kind::Kind;
 use crate::node::Node;
 use crate::sorts::{Chan, Lab, Loc};
 use java::{Binary, Primitive, Unary, Value};
 
-// Empty comes first, so that it is what a reader finds where there is nothing.
-#[derive(Clone, Copy)]
+// In the order of the kinds, but for Empty: `Table::construct` answers it where a node stands for nothing.
+#[derive(Clone, Copy, PartialEq, Eq, Debug)]
 pub enum Construct {
     Empty,
     Literal(Value),
@@ -33,29 +32,10 @@ pub enum Construct {
 // Channels are numbered from 0.
 pub const CHANNELS: u8 = 8;
 
-fn index_below(limit: u8, number: i64) -> Option<u8>
-    ensures { result ≡ index_below limit number }
-{
-    if 0 <= number && number < i64::from(limit) {
-        Some(number as u8)
-    } else {
-        None
-    }
-}
-
-fn is_zero(number: i64) -> bool
-    ensures { result ≡ is_zero number }
-{
-    number == 0
-}
-
 fn has_literals(of_type: Primitive) -> bool
     ensures { result ≡ has_literals of_type }
 {
-    match of_type {
-        Primitive::Boolean | Primitive::Char | Primitive::Int | Primitive::Long => true,
-        Primitive::Byte | Primitive::Short => false,
-    }
+    !matches!(of_type, Primitive::Byte | Primitive::Short)
 }
 
 impl Node {
@@ -64,17 +44,17 @@ impl Node {
     pub fn construct(self, locals: u8, labels: u8) -> Option<Construct>
         ensures { result ≡ construct_of locals labels self }
     {
-        self.of_kind(Kind::from_code(self.kind)?, locals, labels)
-    }
-
-    fn of_kind(self, kind: Kind, locals: u8, labels: u8) -> Option<Construct>
-        ensures { result ≡ of_kind locals labels (Some kind) self.detail self.number }
-    {
-        match kind {
+        match Kind::try_from(self.kind).ok()? {
             Kind::Literal => self.literal(),
             Kind::Local => Some(Construct::Local(Loc(self.index(locals)?))),
-            Kind::Unary => Some(Construct::Unary(self.unary()?)),
-            Kind::Binary => Some(Construct::Binary(self.binary()?)),
+            Kind::Unary => {
+                let operator = Unary::try_from(self.detail).ok();
+                Some(Construct::Unary(self.unnumbered(operator)?))
+            }
+            Kind::Binary => {
+                let operator = Binary::try_from(self.detail).ok();
+                Some(Construct::Binary(self.unnumbered(operator)?))
+            }
             Kind::Conditional => self.bare(Construct::Conditional),
             Kind::Assignment => Some(Construct::Assignment(Loc(self.index(locals)?))),
             Kind::Reading => Some(Construct::Reading(Chan(self.index(CHANNELS)?))),
@@ -94,55 +74,34 @@ impl Node {
     fn literal(self) -> Option<Construct>
         ensures { result ≡ literal_at (type_of self.detail) self.number }
     {
-        let of_type = Primitive::from_code(self.detail)?;
-        if has_literals(of_type) {
-            Some(Construct::Literal(Value::new(of_type, self.number)?))
-        } else {
-            None
+        let of_type = Primitive::try_from(self.detail).ok()?;
+        if !has_literals(of_type) {
+            return None;
         }
+        Some(Construct::Literal(Value::new(of_type, self.number)?))
     }
 
-    // The operator of one operand that the detail names; the number has no meaning.
-    fn unary(self) -> Option<Unary>
-        ensures { result ≡ unnumbered (unary_of self.detail) self.number }
+    // What the detail names, where the number has no meaning.
+    fn unnumbered<T: Drop>(self, named: Option<T>) -> Option<T>
+        ensures { result ≡ unnumbered named self.number }
     {
-        if is_zero(self.number) {
-            Unary::from_code(self.detail)
-        } else {
-            None
-        }
-    }
-
-    // The operator of two operands that the detail names; the number has no meaning.
-    fn binary(self) -> Option<Binary>
-        ensures { result ≡ unnumbered (binary_of self.detail) self.number }
-    {
-        if is_zero(self.number) {
-            Binary::from_code(self.detail)
-        } else {
-            None
-        }
+        named.filter(|_| self.number == 0)
     }
 
     // The local, label or channel that the number names; the detail has no meaning.
     fn index(self, limit: u8) -> Option<u8>
         ensures { result ≡ index_of limit self.detail self.number }
     {
-        if self.detail == 0 {
-            index_below(limit, self.number)
-        } else {
-            None
+        if self.detail != 0 {
+            return None;
         }
+        u8::try_from(self.number).ok().filter(|&n| n < limit)
     }
 
     // A construct for which neither detail nor number has a meaning.
     fn bare(self, construct: Construct) -> Option<Construct>
         ensures { result ≡ bare construct self.detail self.number }
     {
-        if self.detail == 0 && is_zero(self.number) {
-            Some(construct)
-        } else {
-            None
-        }
+        (self.detail == 0 && self.number == 0).then_some(construct)
     }
 }

@@ -1,57 +1,32 @@
 // The kinds of node, with the code that stands for each in stored data, and its name.
 ghost use Rattle.std.specs.Prelude.{◌≡◌, Some};
-ghost use Rattle.script.specs.declared.kind.Kind.{Kind};
+ghost use Rattle.java.specs.Codes.{Decodes};
 ghost use Rattle.script.specs.Kinds.{kind_code, kind_name, kind_of};
 
+use java::UnknownCode;
 use std::fmt;
 
-#[derive(Clone, Copy)]
+#[derive(Clone, Copy, PartialEq, Eq, Debug)]
 pub enum Kind {
-    Literal,
-    Local,
-    Unary,
-    Binary,
-    Conditional,
-    Assignment,
-    Reading,
-    Empty,
-    Expression,
-    Labelled,
-    Break,
-    Continue,
-    If,
-    While,
-    Block,
-    Declaration,
+    Literal = 0,
+    Local = 1,
+    Unary = 2,
+    Binary = 3,
+    Conditional = 4,
+    Assignment = 5,
+    Reading = 6,
+    Empty = 8,
+    Expression = 9,
+    Labelled = 10,
+    Break = 11,
+    Continue = 12,
+    If = 13,
+    While = 14,
+    Block = 15,
+    Declaration = 16,
 }
 
 impl Kind {
-    // The kind that a code names; none for 7 and above 16.
-    pub fn from_code(code: u8) -> Option<Kind>
-        ensures value { result ≡ kind_of code }
-        ensures named { (k : Kind) → (result ≡ Some k → code ≡ kind_code k) × (code ≡ kind_code k → result ≡ Some k) }
-    {
-        match code {
-            0 => Some(Kind::Literal),
-            1 => Some(Kind::Local),
-            2 => Some(Kind::Unary),
-            3 => Some(Kind::Binary),
-            4 => Some(Kind::Conditional),
-            5 => Some(Kind::Assignment),
-            6 => Some(Kind::Reading),
-            8 => Some(Kind::Empty),
-            9 => Some(Kind::Expression),
-            10 => Some(Kind::Labelled),
-            11 => Some(Kind::Break),
-            12 => Some(Kind::Continue),
-            13 => Some(Kind::If),
-            14 => Some(Kind::While),
-            15 => Some(Kind::Block),
-            16 => Some(Kind::Declaration),
-            _ => None,
-        }
-    }
-
     pub fn name(self) -> &'static str
         ensures { result.now ≡ kind_name self }
     {
@@ -72,6 +47,43 @@ impl Kind {
             Kind::While => "while",
             Kind::Block => "block",
             Kind::Declaration => "declaration",
+        }
+    }
+}
+
+impl From<Kind> for u8 {
+    ghost from_gives = { λ k r. r ≡ kind_code k };
+
+    fn from(kind: Kind) -> u8 {
+        kind as u8
+    }
+}
+
+// No kind has the code 7, and none a code above 16.
+impl TryFrom<u8> for Kind {
+    type Error = UnknownCode;
+
+    ghost try_from_gives = { Decodes kind_of kind_code };
+
+    fn try_from(code: u8) -> Result<Kind, UnknownCode> {
+        match code {
+            0 => Ok(Kind::Literal),
+            1 => Ok(Kind::Local),
+            2 => Ok(Kind::Unary),
+            3 => Ok(Kind::Binary),
+            4 => Ok(Kind::Conditional),
+            5 => Ok(Kind::Assignment),
+            6 => Ok(Kind::Reading),
+            8 => Ok(Kind::Empty),
+            9 => Ok(Kind::Expression),
+            10 => Ok(Kind::Labelled),
+            11 => Ok(Kind::Break),
+            12 => Ok(Kind::Continue),
+            13 => Ok(Kind::If),
+            14 => Ok(Kind::While),
+            15 => Ok(Kind::Block),
+            16 => Ok(Kind::Declaration),
+            _ => Err(UnknownCode(code)),
         }
     }
 }

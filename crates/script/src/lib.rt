@@ -1,4 +1,5 @@
-// A script as data: the four sorts of number, the kinds of node, and the nodes. Files are not known here, nor whether a script makes sense.
+// A script as data: the four sorts of number, the kinds of node, the nodes and what they stand for, and the tables that hold
+// them. Files are not known here, nor whether a script makes sense.
 #![tactic(auto)]
 
 mod children;

@@ -1,7 +1,8 @@
 // A node of the table as the file has it.
 use crate::sorts::Pos;
 
-// Kind and detail may be anything here: whether they mean something is for admission to say.
+// Kind and detail stay the bytes that were read, so that any node can be shown: whether they mean something is for admission
+// to say.
 #[derive(Clone, Copy, PartialEq, Eq, Debug)]
 pub struct Node {
     pub kind: u8,

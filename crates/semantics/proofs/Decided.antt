@@ -1,31 +1,33 @@
 -- The rules as tests say what the rules as relations say.
-use Rattle.std.proofs.Common.{◌≡◌, ℕ, zero, suc, ◌+◌, ◌<◌, ◌≤◌, Bool, true, false, not, ◌||◌, eqb, leb, List, [], ◌∷◌, is_some, Some, None, Decides, Option, sym, refl, ap}
+use Rattle.std.proofs.Common.{◌≡◌, ℕ, zero, suc, ◌+◌, ◌<◌, ◌≤◌, Bool, true, false, not, ◌||◌, eqb, leb, List, [], ◌∷◌, is_some, Some, None, Ok, Err, Decides, Option, sym, refl, ap}
 use Rattle.std.proofs.lemmas.Bool.{both_ways, le-leb, leb-true}
 use Rattle.std.proofs.lemmas.Bool.Decides.{Decides-and, Decides-below_and, Decides-below_or, Decides-eqb, Decides-like, Decides-ltb, Decides-not, Decides-or}
 use Rattle.script.specs.declared.children.Sort.{Sort}
 use Rattle.script.specs.declared.sorts.Lab.{Lab}
 use Rattle.script.specs.declared.sorts.Loc.{Loc}
 use Rattle.script.specs.declared.construct.Construct.{Construct}
-use Rattle.script.specs.declared.construct.Construct.TheVariants.{Empty, Literal, Local, Unary, Binary, Conditional, Assignment, Reading, Expression, Labelled, Break, Continue, If, While, Block, Declaration}
+use Rattle.script.specs.declared.construct.Construct.TheVariants.{Local, Assignment, Labelled, Break, Continue, While, Block, Declaration}
 use Rattle.script.specs.Children.{children_of, is_expression, is_of_sort}
 use Rattle.script.specs.Scripts.{Script}
 use Rattle.script.specs.Tables.{size, up, end, construct, meaning}
 use Rattle.semantics.specs.declared.fault.Rule.{Rule}
 use Rattle.semantics.specs.declared.fault.Rule.TheVariants as R
-use Rattle.semantics.specs.declared.typing.Typing.{Typing}
-use Rattle.semantics.specs.declared.typing.Typing.TheVariants.{Typed, Fits, Misfit, Unknown}
+use Rattle.semantics.specs.declared.typing.TypingFault.TheVariants.{Misfit, Unknown}
 use Rattle.semantics.specs.Searches.{all_below, some_below}
 use Rattle.semantics.specs.Trees.{Child, EndsBefore, Placed, child, ends_before, placed}
 use Rattle.semantics.specs.Shapes.{Children, InTurn, NoExpression, Shaped, child_fits, children, in_turn, is_block, shaped}
 use Rattle.semantics.specs.Labels.{Encloses, EnclosesAsLoop, LabelKept, encloses, encloses_as_loop, is_labelled, is_while, label_kept}
 use Rattle.semantics.specs.Scopes.{InScope, ScopeKept, declared, declares, in_scope, scope_kept}
-use Rattle.semantics.specs.Types.{is_misfit, type_at, typing}
+use Rattle.semantics.specs.Types.{Typing, is_misfit, type_at, typing}
 use Rattle.semantics.specs.Flow.{AssignedBefore, assigned_before}
 use Rattle.semantics.specs.Rules.{Keeps, keeps}
 
 -- tests in general
 itself : (b : Bool) → Decides b (b ≡ true)
 itself b = (λ e. e, λ e. e)
+
+never : {P : Type 0} → (P → ⊥) → Decides false P
+never none = (λ e. absurd (both_ways false refl e), λ p. absurd (none p))
 
 decides_leb : (a b : ℕ) → Decides (leb a b) (a ≤ b)
 decides_leb a b = (leb-true a b, le-leb a b)
@@ -54,80 +56,24 @@ none_decided test P each n =
 
 -- which construct it is
 labelled_decided : (m : Lab) (c : Construct) → Decides (is_labelled m c) (c ≡ Labelled m)
-labelled_decided m Empty = (λ e. absurd (both_ways false refl e), λ e. cc)
-labelled_decided m (Literal v) = (λ e. absurd (both_ways false refl e), λ e. cc)
-labelled_decided m (Local x) = (λ e. absurd (both_ways false refl e), λ e. cc)
-labelled_decided m (Unary o) = (λ e. absurd (both_ways false refl e), λ e. cc)
-labelled_decided m (Binary o) = (λ e. absurd (both_ways false refl e), λ e. cc)
-labelled_decided m Conditional = (λ e. absurd (both_ways false refl e), λ e. cc)
-labelled_decided m (Assignment x) = (λ e. absurd (both_ways false refl e), λ e. cc)
-labelled_decided m (Reading k) = (λ e. absurd (both_ways false refl e), λ e. cc)
-labelled_decided m Expression = (λ e. absurd (both_ways false refl e), λ e. cc)
 labelled_decided m (Labelled l) = Decides-like (eqb l.0 m.0) (λ e. ap (λ (n : ℕ). Labelled (record { 0 = n })) e) (λ e. let z : l ≡ m = cc in ap (λ (k : Lab). k.0) z) (Decides-eqb l.0 m.0)
-labelled_decided m (Break l) = (λ e. absurd (both_ways false refl e), λ e. cc)
-labelled_decided m (Continue l) = (λ e. absurd (both_ways false refl e), λ e. cc)
-labelled_decided m If = (λ e. absurd (both_ways false refl e), λ e. cc)
-labelled_decided m While = (λ e. absurd (both_ways false refl e), λ e. cc)
-labelled_decided m Block = (λ e. absurd (both_ways false refl e), λ e. cc)
-labelled_decided m (Declaration x) = (λ e. absurd (both_ways false refl e), λ e. cc)
+labelled_decided m _ = never (λ e. cc)
 
 pub while_decided : (c : Construct) → Decides (is_while c) (c ≡ While)
-while_decided Empty = (λ e. absurd (both_ways false refl e), λ e. cc)
-while_decided (Literal v) = (λ e. absurd (both_ways false refl e), λ e. cc)
-while_decided (Local x) = (λ e. absurd (both_ways false refl e), λ e. cc)
-while_decided (Unary o) = (λ e. absurd (both_ways false refl e), λ e. cc)
-while_decided (Binary o) = (λ e. absurd (both_ways false refl e), λ e. cc)
-while_decided Conditional = (λ e. absurd (both_ways false refl e), λ e. cc)
-while_decided (Assignment x) = (λ e. absurd (both_ways false refl e), λ e. cc)
-while_decided (Reading k) = (λ e. absurd (both_ways false refl e), λ e. cc)
-while_decided Expression = (λ e. absurd (both_ways false refl e), λ e. cc)
-while_decided (Labelled l) = (λ e. absurd (both_ways false refl e), λ e. cc)
-while_decided (Break l) = (λ e. absurd (both_ways false refl e), λ e. cc)
-while_decided (Continue l) = (λ e. absurd (both_ways false refl e), λ e. cc)
-while_decided If = (λ e. absurd (both_ways false refl e), λ e. cc)
 while_decided While = (λ _. refl, λ _. refl)
-while_decided Block = (λ e. absurd (both_ways false refl e), λ e. cc)
-while_decided (Declaration x) = (λ e. absurd (both_ways false refl e), λ e. cc)
+while_decided _ = never (λ e. cc)
 
 block_decided : (c : Construct) → Decides (is_block c) (c ≡ Block)
-block_decided Empty = (λ e. absurd (both_ways false refl e), λ e. cc)
-block_decided (Literal v) = (λ e. absurd (both_ways false refl e), λ e. cc)
-block_decided (Local x) = (λ e. absurd (both_ways false refl e), λ e. cc)
-block_decided (Unary o) = (λ e. absurd (both_ways false refl e), λ e. cc)
-block_decided (Binary o) = (λ e. absurd (both_ways false refl e), λ e. cc)
-block_decided Conditional = (λ e. absurd (both_ways false refl e), λ e. cc)
-block_decided (Assignment x) = (λ e. absurd (both_ways false refl e), λ e. cc)
-block_decided (Reading k) = (λ e. absurd (both_ways false refl e), λ e. cc)
-block_decided Expression = (λ e. absurd (both_ways false refl e), λ e. cc)
-block_decided (Labelled l) = (λ e. absurd (both_ways false refl e), λ e. cc)
-block_decided (Break l) = (λ e. absurd (both_ways false refl e), λ e. cc)
-block_decided (Continue l) = (λ e. absurd (both_ways false refl e), λ e. cc)
-block_decided If = (λ e. absurd (both_ways false refl e), λ e. cc)
-block_decided While = (λ e. absurd (both_ways false refl e), λ e. cc)
 block_decided Block = (λ _. refl, λ _. refl)
-block_decided (Declaration x) = (λ e. absurd (both_ways false refl e), λ e. cc)
+block_decided _ = never (λ e. cc)
 
 pub declares_decided : (y : Loc) (c : Construct) → Decides (declares y c) (c ≡ Declaration y)
-declares_decided y Empty = (λ e. absurd (both_ways false refl e), λ e. cc)
-declares_decided y (Literal v) = (λ e. absurd (both_ways false refl e), λ e. cc)
-declares_decided y (Local x) = (λ e. absurd (both_ways false refl e), λ e. cc)
-declares_decided y (Unary o) = (λ e. absurd (both_ways false refl e), λ e. cc)
-declares_decided y (Binary o) = (λ e. absurd (both_ways false refl e), λ e. cc)
-declares_decided y Conditional = (λ e. absurd (both_ways false refl e), λ e. cc)
-declares_decided y (Assignment x) = (λ e. absurd (both_ways false refl e), λ e. cc)
-declares_decided y (Reading k) = (λ e. absurd (both_ways false refl e), λ e. cc)
-declares_decided y Expression = (λ e. absurd (both_ways false refl e), λ e. cc)
-declares_decided y (Labelled l) = (λ e. absurd (both_ways false refl e), λ e. cc)
-declares_decided y (Break l) = (λ e. absurd (both_ways false refl e), λ e. cc)
-declares_decided y (Continue l) = (λ e. absurd (both_ways false refl e), λ e. cc)
-declares_decided y If = (λ e. absurd (both_ways false refl e), λ e. cc)
-declares_decided y While = (λ e. absurd (both_ways false refl e), λ e. cc)
-declares_decided y Block = (λ e. absurd (both_ways false refl e), λ e. cc)
 declares_decided y (Declaration x) = Decides-like (eqb x.0 y.0) (λ e. ap (λ (n : ℕ). Declaration (record { 0 = n })) e) (λ e. let z : x ≡ y = cc in ap (λ (k : Loc). k.0) z) (Decides-eqb x.0 y.0)
+declares_decided y _ = never (λ e. cc)
 
 -- the rule of constructs
 meaning_decided : (o : Option Construct) → Decides (is_some o) ((c : Construct) × (o ≡ Some c))
-meaning_decided None = (λ e. absurd (both_ways false refl e), λ found. let z : None ≡ Some found.0 = found.1 in cc)
+meaning_decided None = never (λ found. let z : None ≡ Some found.0 = found.1 in cc)
 meaning_decided (Some c) = (λ _. (c, refl), λ _. refl)
 
 -- the rule of the tree
@@ -181,70 +127,31 @@ pub loop_decided : (s : Script) (m : Lab) (p x : ℕ) → Decides (encloses_as_l
 loop_decided s m p x = Decides-and _ _ (encloses_decided s m p x) (while_decided (construct s (x + 1)))
 
 label_decided : (s : Script) (p : ℕ) (c : Construct) → Decides (label_kept s p c) (LabelKept s p c)
-label_decided s p Empty = (λ _. tt, λ _. refl)
-label_decided s p (Literal v) = (λ _. tt, λ _. refl)
-label_decided s p (Local x) = (λ _. tt, λ _. refl)
-label_decided s p (Unary o) = (λ _. tt, λ _. refl)
-label_decided s p (Binary o) = (λ _. tt, λ _. refl)
-label_decided s p Conditional = (λ _. tt, λ _. refl)
-label_decided s p (Assignment x) = (λ _. tt, λ _. refl)
-label_decided s p (Reading k) = (λ _. tt, λ _. refl)
-label_decided s p Expression = (λ _. tt, λ _. refl)
 label_decided s p (Labelled l) = none_decided (encloses s l p) (Encloses s l p) (encloses_decided s l p) p
 label_decided s p (Break l) = some_decided (encloses s l p) (Encloses s l p) (encloses_decided s l p) p
 label_decided s p (Continue l) = some_decided (encloses_as_loop s l p) (EnclosesAsLoop s l p) (loop_decided s l p) p
-label_decided s p If = (λ _. tt, λ _. refl)
-label_decided s p While = (λ _. tt, λ _. refl)
-label_decided s p Block = (λ _. tt, λ _. refl)
-label_decided s p (Declaration x) = (λ _. tt, λ _. refl)
+label_decided s p _ = (λ _. tt, λ _. refl)
 
 -- the rule of scopes
 pub in_scope_decided : (s : Script) (y : Loc) (p d : ℕ) → Decides (in_scope s y p d) (InScope s y p d)
 in_scope_decided s y p d = Decides-and _ _ (Decides-ltb p (end s (up s d))) (declares_decided y (construct s d))
 
 scope_decided : (s : Script) (p : ℕ) (c : Construct) → Decides (scope_kept s p c) (ScopeKept s p c)
-scope_decided s p Empty = (λ _. tt, λ _. refl)
-scope_decided s p (Literal v) = (λ _. tt, λ _. refl)
 scope_decided s p (Local x) = some_decided (in_scope s x p) (InScope s x p) (in_scope_decided s x p) p
-scope_decided s p (Unary o) = (λ _. tt, λ _. refl)
-scope_decided s p (Binary o) = (λ _. tt, λ _. refl)
-scope_decided s p Conditional = (λ _. tt, λ _. refl)
 scope_decided s p (Assignment x) = some_decided (in_scope s x p) (InScope s x p) (in_scope_decided s x p) p
-scope_decided s p (Reading k) = (λ _. tt, λ _. refl)
-scope_decided s p Expression = (λ _. tt, λ _. refl)
-scope_decided s p (Labelled l) = (λ _. tt, λ _. refl)
-scope_decided s p (Break l) = (λ _. tt, λ _. refl)
-scope_decided s p (Continue l) = (λ _. tt, λ _. refl)
-scope_decided s p If = (λ _. tt, λ _. refl)
-scope_decided s p While = (λ _. tt, λ _. refl)
-scope_decided s p Block = (λ _. tt, λ _. refl)
 scope_decided s p (Declaration x) = none_decided (declared s x) (λ d. construct s d ≡ Declaration x) (λ d. declares_decided x (construct s d)) p
+scope_decided s p _ = (λ _. tt, λ _. refl)
 
 -- the rule of types
-misfit_decided : (t : Typing) → Decides (is_misfit t) (t ≡ Misfit)
-misfit_decided (Typed t) = (λ e. absurd (both_ways false refl e), λ e. cc)
-misfit_decided Fits = (λ e. absurd (both_ways false refl e), λ e. cc)
-misfit_decided Misfit = (λ _. refl, λ _. refl)
-misfit_decided Unknown = (λ e. absurd (both_ways false refl e), λ e. cc)
+misfit_decided : (t : Typing) → Decides (is_misfit t) (t ≡ Err Misfit)
+misfit_decided (Ok type) = never (λ e. cc)
+misfit_decided (Err Misfit) = (λ _. refl, λ _. refl)
+misfit_decided (Err Unknown) = never (λ e. cc)
 
 -- the rule of assignment
 assigned_decided : (s : Script) (p : ℕ) (c : Construct) → Decides (assigned_before s p c) (AssignedBefore s p c)
-assigned_decided s p Empty = (λ _. tt, λ _. refl)
-assigned_decided s p (Literal v) = (λ _. tt, λ _. refl)
 assigned_decided s p (Local x) = itself _
-assigned_decided s p (Unary o) = (λ _. tt, λ _. refl)
-assigned_decided s p (Binary o) = (λ _. tt, λ _. refl)
-assigned_decided s p Conditional = (λ _. tt, λ _. refl)
-assigned_decided s p (Assignment x) = (λ _. tt, λ _. refl)
-assigned_decided s p (Reading k) = (λ _. tt, λ _. refl)
-assigned_decided s p Expression = (λ _. tt, λ _. refl)
-assigned_decided s p (Labelled l) = (λ _. tt, λ _. refl)
-assigned_decided s p (Break l) = (λ _. tt, λ _. refl)
-assigned_decided s p (Continue l) = (λ _. tt, λ _. refl)
-assigned_decided s p If = (λ _. tt, λ _. refl)
-assigned_decided s p While = (λ _. tt, λ _. refl)
-assigned_decided s p Block = (λ _. tt, λ _. refl)
-assigned_decided s p (Declaration x) = (λ _. tt, λ _. refl)
+assigned_decided s p _ = (λ _. tt, λ _. refl)
 
 pub kept : (r : Rule) (s : Script) (p : ℕ) → Decides (keeps r s p) (Keeps r s p)
 kept R.Construct s p = meaning_decided (meaning s p)

@@ -32,28 +32,19 @@ of_form : (r : Rule) → rule_number r < 13 → IsOfForm r
 of_form R.Construct h = tt
 of_form R.Tree h = tt
 of_form R.Children h = tt
-of_form R.Label h = absurd (omega (arith, h))
-of_form R.Scope h = absurd (omega (arith, h))
-of_form R.Type h = absurd (omega (arith, h))
-of_form R.Assignment h = absurd (omega (arith, h))
+of_form _ h = absurd (omega (arith, h))
 
 below_13 : (r : Rule) → IsOfForm r → rule_number r < 13
 below_13 R.Construct h = omega arith
 below_13 R.Tree h = omega arith
 below_13 R.Children h = omega arith
-below_13 R.Label h = absurd h
-below_13 R.Scope h = absurd h
-below_13 R.Type h = absurd h
-below_13 R.Assignment h = absurd h
+below_13 _ h = absurd h
 
 each_kept : (s : Script) → AllKept s form → (r : Rule) → IsOfForm r → AllKeep r s
 each_kept s a R.Construct h = a.0
 each_kept s a R.Tree h = a.1.0
 each_kept s a R.Children h = a.1.1.0
-each_kept s a R.Label h = absurd h
-each_kept s a R.Scope h = absurd h
-each_kept s a R.Type h = absurd h
-each_kept s a R.Assignment h = absurd h
+each_kept s a _ h = absurd h
 
 named : (s : Script) (p : ℕ) (c : Construct) → meaning s p ≡ Some c → InSection (length s.locals) s.labels c
 unfolding construct

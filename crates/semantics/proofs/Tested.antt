@@ -1,5 +1,5 @@
 -- What the tests of a list of rules, one after the other, say of a script.
-use Rattle.std.proofs.Common.{◌≡◌, ℕ, suc, ◌<◌, ◌≤◌, true, false, cond, eqb, List, [], ◌∷◌, Some, None, Ok, Err, Option, Result, sym, refl, ap, ◌∙◌, subst, ⊎_elim, arith}
+use Rattle.std.proofs.Common.{◌≡◌, ℕ, suc, ◌<◌, ◌≤◌, true, false, cond, eqb, List, [], ◌∷◌, Some, None, Ok, Err, Option, Result, sym, refl, ap, ◌∙◌, subst, ⊎_elim, arith, MatchOption}
 use Rattle.std.specs.Option.{option_map}
 use Rattle.std.proofs.lemmas.Bool.{cases_Bool, cases_eq}
 use Rattle.std.proofs.lemmas.Bool.Decides.{not_from_Decides}
@@ -9,7 +9,7 @@ use Rattle.script.specs.Tables.{size}
 use Rattle.semantics.specs.declared.fault.Rule.{Rule}
 use Rattle.semantics.specs.declared.fault.Rule.TheVariants as R
 use Rattle.semantics.specs.declared.fault.AdmissionFault.{AdmissionFault}
-use Rattle.semantics.specs.Faults.{refusal, rule_number}
+use Rattle.semantics.specs.Faults.{rule_number}
 use Rattle.semantics.specs.Rules.{Admitted, AllKeep, Keeps, Refused, answer, broken_at, first_broken, form, in_order, keeps, or_else, tested}
 use Rattle.semantics.proofs.Decided.{kept}
 use Rattle.semantics.proofs.Lowest.{Lowest, lowest, lowest_is}
@@ -38,32 +38,12 @@ module _ (r : Rule) (s : Script) where
   breaks_nowhere n h below =
       ap (option_map (λ (n : ℕ). let place : Pos = record { 0 = n } in place)) (broken_is r s None (λ q l. below q (omega arith)))
 
--- one rule that was tested, with the tests after it
-module _ (r : Rule) where
-  passes : (o : Option ℕ) (later : Result (Unit {0}) AdmissionFault) → refusal r (option_map (λ p. record { 0 = p }) o) ≡ Ok tt → or_else r o later ≡ later
-  passes None later e = refl
-  passes (Some p) later e = absurd (let z : ◌≡◌ {A = ℕ} 0 1 = cc in omega arith)
-
-  stops : (o : Option ℕ) (later : Result (Unit {0}) AdmissionFault) (f : AdmissionFault) → refusal r (option_map (λ p. record { 0 = p }) o) ≡ Err f → or_else r o later ≡ Err f
-  stops None later f e = absurd (let z : ◌≡◌ {A = ℕ} 0 1 = cc in omega arith)
-  stops (Some p) later f e = e
-
-  ends : (o : Option ℕ) → refusal r (option_map (λ p. record { 0 = p }) o) ≡ or_else r o (Ok tt)
-  ends None = refl
-  ends (Some p) = refl
-
-  module _ (s : Script) where
-    -- it is kept, so the later ones decide
-    pub rule_passes : (rules : List Rule) → refusal r (first_broken r s) ≡ Ok tt → tested s (r ∷ rules) ≡ tested s rules
-    rule_passes rules e = passes (broken_at r s) (tested s rules) e
-
-    -- it is broken, so they do not matter
-    pub rule_stops : (rules : List Rule) (f : AdmissionFault) → refusal r (first_broken r s) ≡ Err f → tested s (r ∷ rules) ≡ Err f
-    rule_stops rules f e = stops (broken_at r s) (tested s rules) f e
-
-    -- there are none
-    pub rule_ends : refusal r (first_broken r s) ≡ tested s (r ∷ [])
-    rule_ends = ends (broken_at r s)
+-- so has a search through all places
+pub found_first : (r : Rule) (s : Script) (o : Option ℕ) (n : ℕ) → n ≡ size s
+    → MatchOption o ((q : ℕ) → 0 ≤ q → q < n → keeps r s q ≡ true) (λ p. (0 ≤ p) × (p < n) × (keeps r s p ≡ false) × ((q : ℕ) → 0 ≤ q → q < p → keeps r s q ≡ true))
+    → o ≡ broken_at r s
+found_first r s None n e all = broken_is r s None (λ q h. all q (omega arith) (omega arith))
+found_first r s (Some p) n e found = broken_is r s (Some p) (omega (arith, found.1), found.2, λ q h. found.3 q (omega arith) h)
 
 module _ (s : Script) where
   all_keep : (r : Rule) → ((q : ℕ) → q < size s → keeps r s q ≡ true) → AllKeep r s
@@ -76,7 +56,7 @@ module _ (s : Script) where
   first_kept : (r : Rule) (o : Option ℕ) (later : Result (Unit {0}) AdmissionFault) → Lowest (keeps r s) (size s) o
       → or_else r o later ≡ Ok tt → AllKeep r s × (later ≡ Ok tt)
   first_kept r None later all e = (all_keep r all, e)
-  first_kept r (Some p) later found e = absurd (let z : ◌≡◌ {A = ℕ} 0 1 = cc in omega arith)
+  first_kept r (Some p) later found e = absurd cc
 
   pub kept_all : (rules : List Rule) → tested s rules ≡ Ok tt → AllKept s rules
   kept_all [] e = tt
@@ -85,8 +65,8 @@ module _ (s : Script) where
       (f.0, kept_all rules f.1)
 
   -- a rule whose test found no place is kept
-  pub kept_rule : (r : Rule) → refusal r (first_broken r s) ≡ Ok tt → AllKeep r s
-  kept_rule r e = (kept_all (r ∷ []) (sym (rule_ends r s) ∙ e)).0
+  pub kept_rule : (r : Rule) → broken_at r s ≡ None → AllKeep r s
+  kept_rule r e = all_keep r (subst (Lowest (keeps r s) (size s)) e (breaks r s))
 
   pub all_tested : (rules : List Rule) → AllKept s rules → tested s rules ≡ Ok tt
   all_tested [] a = refl
@@ -120,12 +100,7 @@ rule_of n =
 numbered : (r : Rule) → rule_of (rule_number r) ≡ Some r
 unfolding rule_of
 numbered R.Construct = refl
-numbered R.Tree = refl
-numbered R.Children = refl
-numbered R.Label = refl
-numbered R.Scope = refl
-numbered R.Type = refl
-numbered R.Assignment = refl
+numbered _ = refl
 
 same_rule : (a b : Rule) → rule_number a ≡ rule_number b → a ≡ b
 same_rule a b e =
@@ -136,21 +111,11 @@ same_rule a b e =
 
 last_number : (r : Rule) → rule_number r ≤ 16
 last_number R.Construct = omega arith
-last_number R.Tree = omega arith
-last_number R.Children = omega arith
-last_number R.Label = omega arith
-last_number R.Scope = omega arith
-last_number R.Type = omega arith
-last_number R.Assignment = omega arith
+last_number _ = omega arith
 
 first_number : (r : Rule) → 10 ≤ rule_number r
 first_number R.Construct = omega arith
-first_number R.Tree = omega arith
-first_number R.Children = omega arith
-first_number R.Label = omega arith
-first_number R.Scope = omega arith
-first_number R.Type = omega arith
-first_number R.Assignment = omega arith
+first_number _ = omega arith
 
 -- rules whose numbers go up one by one from n, as far as `last`, which is none of them
 abbrev Consecutive : ℕ → ℕ → List Rule → Type 0
@@ -187,7 +152,7 @@ module _ (s : Script) where
         })
 
     truly_refused : (last n : ℕ) (rules : List Rule) → Consecutive last n rules → Earlier n → tested s rules ≡ Err e → Refused s e
-    truly_refused last n [] c earlier z = absurd (let w : ◌≡◌ {A = ℕ} 0 1 = cc in omega arith)
+    truly_refused last n [] c earlier z = absurd cc
     truly_refused last n (r ∷ rules) c earlier z =
         at_first n r (broken_at r s) (tested s rules) c.0 earlier (breaks r s) (truly_refused last (suc n) rules c.1) z
 
@@ -200,7 +165,7 @@ module _ (s : Script) where
         subst (λ (f : AdmissionFault). rule_number f.rule < last) w h
 
     refused_below : (last n : ℕ) (rules : List Rule) → Consecutive last n rules → tested s rules ≡ Err e → rule_number e.rule < last
-    refused_below last n [] c z = absurd (let w : ◌≡◌ {A = ℕ} 0 1 = cc in omega arith)
+    refused_below last n [] c z = absurd cc
     refused_below last n (r ∷ rules) c z =
         first_below last r (broken_at r s) (tested s rules) (omega (arith, c.0, reaches last (suc n) rules c.1))
         (refused_below last (suc n) rules c.1) z

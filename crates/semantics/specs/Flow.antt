@@ -26,19 +26,12 @@ always m = record { after = m; when_true = m; when_false = m }
 abbrev pub after_literal : LocalSet → Value → Assigned
 after_literal m (V.Boolean true) = record { after = m; when_true = m; when_false = full }
 after_literal m (V.Boolean false) = record { after = m; when_true = full; when_false = m }
-after_literal m (V.Byte n) = always m
-after_literal m (V.Short n) = always m
-after_literal m (V.Char n) = always m
-after_literal m (V.Int n) = always m
-after_literal m (V.Long n) = always m
+after_literal m _ = always m
 
 -- ! swaps the two ways
 abbrev pub after_unary : Operator.Unary → Assigned → Assigned
-after_unary U.Plus a = always a.after
-after_unary U.Minus a = always a.after
-after_unary U.Complement a = always a.after
 after_unary U.Not a = record { after = shared a.when_false a.when_true; when_true = a.when_false; when_false = a.when_true }
-after_unary (U.Cast n) a = always a.after
+after_unary _ a = always a.after
 
 -- what two ways share
 abbrev pub both : Assigned → Assigned → Assigned
@@ -71,58 +64,18 @@ after_rule m a b c last breaks (Declaration x) = always (without x.0 m)
 -- what is assigned before a child that is not the first, by the parent's construct: whether it is the second, what is
 -- assigned after the first child, and after the child before it
 abbrev pub before_later : Bool → Assigned → LocalSet → Construct → LocalSet
-before_later second a previous Empty = previous
-before_later second a previous (Literal v) = previous
-before_later second a previous (Local x) = previous
-before_later second a previous (Unary o) = previous
-before_later second a previous (Binary o) = previous
 before_later second a previous Conditional = cond second a.when_true a.when_false
-before_later second a previous (Assignment x) = previous
-before_later second a previous (Reading k) = previous
-before_later second a previous Expression = previous
-before_later second a previous (Labelled l) = previous
-before_later second a previous (Break l) = previous
-before_later second a previous (Continue l) = previous
 before_later second a previous If = cond second a.when_true a.when_false
 before_later second a previous While = a.when_true
-before_later second a previous Block = previous
-before_later second a previous (Declaration x) = previous
+before_later second a previous _ = previous
 
 abbrev pub is_break : Lab → Construct → Bool
-is_break m Empty = false
-is_break m (Literal v) = false
-is_break m (Local x) = false
-is_break m (Unary o) = false
-is_break m (Binary o) = false
-is_break m Conditional = false
-is_break m (Assignment x) = false
-is_break m (Reading k) = false
-is_break m Expression = false
-is_break m (Labelled l) = false
 is_break m (Break l) = l.0 == m.0
-is_break m (Continue l) = false
-is_break m If = false
-is_break m While = false
-is_break m Block = false
-is_break m (Declaration x) = false
+is_break m _ = false
 
 abbrev pub label_of : Construct → Lab
-label_of Empty = record { 0 = 0 }
-label_of (Literal v) = record { 0 = 0 }
-label_of (Local x) = record { 0 = 0 }
-label_of (Unary o) = record { 0 = 0 }
-label_of (Binary o) = record { 0 = 0 }
-label_of Conditional = record { 0 = 0 }
-label_of (Assignment x) = record { 0 = 0 }
-label_of (Reading k) = record { 0 = 0 }
-label_of Expression = record { 0 = 0 }
 label_of (Labelled l) = l
-label_of (Break l) = record { 0 = 0 }
-label_of (Continue l) = record { 0 = 0 }
-label_of If = record { 0 = 0 }
-label_of While = record { 0 = 0 }
-label_of Block = record { 0 = 0 }
-label_of (Declaration x) = record { 0 = 0 }
+label_of _ = record { 0 = 0 }
 
 -- what is assigned before every break to a label, of the places from i on and below e
 unfoldable pub before_breaks : Script → (ℕ → LocalSet) → Lab → ℕ → ℕ → LocalSet
@@ -197,37 +150,9 @@ facts s = facts_below s (size s)
 
 -- by the construct at p: a local that is read is assigned before
 abbrev pub AssignedBefore : Script → ℕ → Construct → Type 0
-AssignedBefore s p Empty = Unit {0}
-AssignedBefore s p (Literal v) = Unit {0}
 AssignedBefore s p (Local x) = has x.0 ((facts s).before p) ≡ true
-AssignedBefore s p (Unary o) = Unit {0}
-AssignedBefore s p (Binary o) = Unit {0}
-AssignedBefore s p Conditional = Unit {0}
-AssignedBefore s p (Assignment x) = Unit {0}
-AssignedBefore s p (Reading k) = Unit {0}
-AssignedBefore s p Expression = Unit {0}
-AssignedBefore s p (Labelled l) = Unit {0}
-AssignedBefore s p (Break l) = Unit {0}
-AssignedBefore s p (Continue l) = Unit {0}
-AssignedBefore s p If = Unit {0}
-AssignedBefore s p While = Unit {0}
-AssignedBefore s p Block = Unit {0}
-AssignedBefore s p (Declaration x) = Unit {0}
+AssignedBefore s p _ = Unit {0}
 
 abbrev pub assigned_before : Script → ℕ → Construct → Bool
-assigned_before s p Empty = true
-assigned_before s p (Literal v) = true
 assigned_before s p (Local x) = has x.0 ((facts s).before p)
-assigned_before s p (Unary o) = true
-assigned_before s p (Binary o) = true
-assigned_before s p Conditional = true
-assigned_before s p (Assignment x) = true
-assigned_before s p (Reading k) = true
-assigned_before s p Expression = true
-assigned_before s p (Labelled l) = true
-assigned_before s p (Break l) = true
-assigned_before s p (Continue l) = true
-assigned_before s p If = true
-assigned_before s p While = true
-assigned_before s p Block = true
-assigned_before s p (Declaration x) = true
+assigned_before s p _ = true

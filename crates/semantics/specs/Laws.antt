@@ -35,10 +35,7 @@ abbrev pub IsOfForm : Rule → Type 0
 IsOfForm R.Construct = Unit {0}
 IsOfForm R.Tree = Unit {0}
 IsOfForm R.Children = Unit {0}
-IsOfForm R.Label = ⊥
-IsOfForm R.Scope = ⊥
-IsOfForm R.Type = ⊥
-IsOfForm R.Assignment = ⊥
+IsOfForm _ = ⊥
 
 -- what holds of an answer by the rules of form alone
 pub record FormLawful (s : Script) (r : Result (Unit {0}) AdmissionFault) : Type 0 where

@@ -2,7 +2,7 @@
 use Rattle.std.specs.Prelude.{◌≡◌, ℕ, ◌+◌, ◌<◌, Bool, true, false, not, ◌&&◌, ◌||◌, List, [], ◌∷◌, Some, None, Option, ◌==◌, nat_lt}
 use Rattle.script.specs.declared.children.Sort.{Sort}
 use Rattle.script.specs.declared.construct.Construct.{Construct}
-use Rattle.script.specs.declared.construct.Construct.TheVariants.{Empty, Literal, Local, Unary, Binary, Conditional, Assignment, Reading, Expression, Labelled, Break, Continue, If, While, Block, Declaration}
+use Rattle.script.specs.declared.construct.Construct.TheVariants.{Block}
 use Rattle.script.specs.Children.{children_of, is_expression, is_of_sort}
 use Rattle.script.specs.Scripts.{Script}
 use Rattle.script.specs.Tables.{up, end, construct}
@@ -22,22 +22,8 @@ Children s p None = NoExpression s p
 Children s p (Some sorts) = InTurn s (p + 1) (end s p) sorts
 
 abbrev pub is_block : Construct → Bool
-is_block Empty = false
-is_block (Literal v) = false
-is_block (Local x) = false
-is_block (Unary o) = false
-is_block (Binary o) = false
-is_block Conditional = false
-is_block (Assignment x) = false
-is_block (Reading k) = false
-is_block Expression = false
-is_block (Labelled l) = false
-is_block (Break l) = false
-is_block (Continue l) = false
-is_block If = false
-is_block While = false
 is_block Block = true
-is_block (Declaration x) = false
+is_block _ = false
 
 -- each node has the children of its kind, and node 0 is a block
 abbrev pub Shaped : Script → ℕ → Type 0

@@ -3,28 +3,30 @@ ghost use Rattle.std.specs.Prelude.{◌≡◌, Some};
 ghost use Rattle.semantics.specs.Faults.{fault_number, fault_text, refusal, rule_number, rule_reason};
 
 use script::Pos;
+use std::error::Error;
 use std::fmt;
 
-// The rules, in the order in which they are tested.
+// The rules, in the order in which they are tested, each with the number of its refusal.
 #[derive(Clone, Copy, PartialEq, Eq, Debug)]
 pub enum Rule {
     // Kind, detail and number are in the table of kinds.
-    Construct,
+    Construct = 10,
     // The nodes are a tree.
-    Tree,
+    Tree = 11,
     // Each node has the children of its kind.
-    Children,
+    Children = 12,
     // A label is not nested in itself, and a break or continue stands within a statement of its label.
-    Label,
+    Label = 13,
     // A local is declared once, before its uses.
-    Scope,
+    Scope = 14,
     // Some typing rule fits each node.
-    Type,
+    Type = 15,
     // A local that is read has been assigned on every way to it.
-    Assignment,
+    Assignment = 16,
 }
 
-// The first rule that a script breaks, and the lowest place at which it does.
+// The first rule that a script breaks, and the lowest place at which it does. A fault of a file is by byte instead, and no
+// code takes either, so the two share no trait.
 #[derive(Clone, Copy, PartialEq, Eq, Debug)]
 pub struct AdmissionFault {
     pub rule: Rule,
@@ -35,25 +37,14 @@ impl Rule {
     pub fn number(self) -> u8
         ensures { result ≡ rule_number self }
     {
-        match self {
-            Rule::Construct => 10,
-            Rule::Tree => 11,
-            Rule::Children => 12,
-            Rule::Label => 13,
-            Rule::Scope => 14,
-            Rule::Type => 15,
-            Rule::Assignment => 16,
-        }
+        self as u8
     }
 
     // A refusal by this rule at the place where it is broken, if there is one.
     pub fn refuse(self, place: Option<Pos>) -> Result<(), AdmissionFault>
         ensures { result ≡ refusal self place }
     {
-        match place {
-            Some(place) => Err(AdmissionFault { rule: self, place }),
-            None => Ok(()),
-        }
+        place.map_or(Ok(()), |place| Err(AdmissionFault { rule: self, place }))
     }
 
     // What is wrong where the rule is broken, in words.
@@ -91,3 +82,5 @@ impl fmt::Display for AdmissionFault {
         write!(f, "refusal {number} at place {place}: {reason}")
     }
 }
+
+impl Error for AdmissionFault {}

@@ -8,4 +8,4 @@ mod typing;
 
 pub use fault::{AdmissionFault, Rule};
 pub use sets::{Assigned, LocalSet};
-pub use typing::Typing;
+pub use typing::TypingFault;

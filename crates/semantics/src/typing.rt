@@ -1,12 +1,9 @@
-// What the typing rule of a construct says of a node.
-use java::Primitive;
+// What the typing rule of a construct says of a node is a `Result<Option<Primitive>, TypingFault>`: the type of an
+// expression, and none of a statement or declaration, which has no type, where its rule fits.
 
-#[derive(Clone, Copy)]
-pub enum Typing {
-    // An expression of this type.
-    Typed(Primitive),
-    // A statement or declaration, which has no type; its rule fits.
-    Fits,
+// What keeps a node from fitting its typing rule.
+#[derive(Clone, Copy, PartialEq, Eq, Debug)]
+pub enum TypingFault {
     // All expression children have a type, and no rule fits.
     Misfit,
     // An expression child has no type.

@@ -1,2 +1,3 @@
 pub mod Awaited
-pub mod Turns
+pub mod Siblings
+pub mod Empty

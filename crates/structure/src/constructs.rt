@@ -10,10 +10,7 @@ use script::{Pos, Table};
 pub(crate) fn first_unknown(table: &Table<'_>) -> Option<Pos>
     ensures { result ≡ first_broken R.Construct (script_of table.now) }
 {
-    for p in 0..table.size() {
-        if table.meaning(Pos(p)).is_none() {
-            return Some(Pos(p));
-        }
-    }
-    None
+    (0..table.size())
+        .find(|&p| table.meaning(Pos(p)).is_none())
+        .map(Pos)
 }

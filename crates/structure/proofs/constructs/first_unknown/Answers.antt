@@ -1,16 +1,16 @@
-use Rattle.std.proofs.Common.{is_some, sym, ap, ◌∙◌, arith, below_more}
+use Rattle.std.proofs.Common.{◌≡◌, rules}
+use Rattle.std.proofs.lemmas.Iterator.{first_from_Range}
+use borrow.Author.Tests.{tests}
 use Rattle.script.specs.Tables.{script_of}
 use Rattle.semantics.specs.declared.fault.Rule.TheVariants as R
-use Rattle.semantics.proofs.Tested.{breaks_here, breaks_nowhere}
+use Rattle.semantics.specs.Rules.{broken_at}
+use Rattle.semantics.proofs.Tested.{found_first}
 use Rattle.structure.proofs.constructs.first_unknown.Goals as goal
 
-pub returns-then-is_none : goal.returns-then-is_none
-returns-then-is_none c =
-    breaks_here R.Construct (script_of c.args.table.now) c.loop-p.p (omega arith)
-    (ap is_some (sym c.meaning.ensures) ∙ c.if-is_none.ensures) c.loop-p.invariant
-
-pub loop-p-preserved : goal.loop-p-preserved
-loop-p-preserved c = below_more _ _ c.loop-p.invariant (ap is_some (sym c.meaning.ensures) ∙ c.if-is_none.ensures)
-
 pub returns : goal.returns
-returns c = breaks_nowhere R.Construct (script_of c.args.table.now) c.loop-p.p (omega arith) c.loop-p.invariant
+returns c =
+    let s = script_of c.args.table.now in
+    let first : c.find.result ≡ broken_at R.Construct s =
+    found_first R.Construct s c.find.result _ c.size.ensures
+    (first_from_Range _ _ _ c.find.result _ _ c.find.ensures.ran (λ x q k. search (rules, tests)) (λ x q k. search (rules, tests))) in
+    search rules

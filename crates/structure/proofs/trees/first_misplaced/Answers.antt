@@ -1,12 +1,10 @@
-use Rattle.std.proofs.Common.{ℕ, ◌+◌, ◌<◌, ◌≤◌, List, set, sym, refl, ap, ◌∙◌, subst, arith, rules}
+use Rattle.std.proofs.Common.{ℕ, ◌+◌, ◌<◌, ◌≤◌, List, set, sym, ap, ◌∙◌, subst, arith, rules}
+use Rattle.script.specs.declared.sorts.Pos.{Pos}
 use Rattle.script.specs.Tables.{end, script_of, size}
 use Rattle.semantics.specs.declared.fault.Rule.TheVariants as R
 use Rattle.semantics.proofs.Tested.{breaks_here, breaks_nowhere}
-use Rattle.structure.proofs.Awaited.{Awaits, agrees, none_passed, one_passed}
+use Rattle.structure.proofs.Awaited.{Awaits, agrees, one_passed}
 use Rattle.structure.proofs.trees.first_misplaced.Goals as goal
-
-pub loop-p-init : goal.loop-p-init
-loop-p-init c = none_passed (script_of c.args.table.now) _ refl
 
 pub returns-then-not-is_in_place : goal.returns-then-not-is_in_place
 returns-then-not-is_in_place c =
@@ -23,8 +21,8 @@ loop-p-preserved c =
     let h : p < size s = omega arith in
     let small : size s ≤ 1024 = search rules in
     let here = sym (agrees s next p c.loop-p.invariant (omega arith)) ∙ sym c.is_in_place.ensures ∙ c.if-not-is_in_place.false in
-    subst (λ (l : List ℕ). Awaits s (set l p (p + 1)) (p + 1))
-    (ap (λ (u : ℕ). set next u (end s p)) (sym c.up.ensures) ∙ ap (set next c.up.result.0) (sym c.end.ensures))
+    subst (λ (l : List Pos). Awaits s (set l p (record { 0 = p + 1 })) (p + 1))
+    (ap (λ (u : ℕ). set next u (record { 0 = end s p })) (sym c.up.ensures) ∙ ap (λ (e : ℕ). set next c.up.result.0 (record { 0 = e })) (sym c.end.ensures))
     (one_passed s next p c.loop-p.invariant h small here)
 
 pub returns : goal.returns

@@ -1,3 +1,1 @@
-pub mod OpenLabels
-pub mod OpenScopes
-pub mod Seen
+pub mod Passing

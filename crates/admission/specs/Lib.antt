@@ -1,1 +1,4 @@
 pub mod Names
+pub mod OpenLabels
+pub mod OpenScopes
+pub mod Seen

@@ -3,4 +3,6 @@
 
 mod labels;
 mod latest;
+mod names;
 mod scopes;
+mod spot;

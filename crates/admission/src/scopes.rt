@@ -1,61 +1,60 @@
 // The rule of scopes: no second declaration of a local, and no use of a local that is not in scope.
-ghost use Rattle.std.specs.Prelude.{◌≡◌, length};
-ghost use Rattle.script.specs.Constructs.{InSection};
-ghost use Rattle.script.specs.Tables.{script_of};
+ghost use Rattle.std.specs.Prelude.{◌≡◌};
 ghost use Rattle.semantics.specs.declared.fault.Rule.TheVariants as R;
 ghost use Rattle.semantics.specs.Rules.{first_broken};
 ghost use Rattle.structure.specs.Forms.{formed_script};
-ghost use Rattle.admission.specs.Names.{declared_in, scope_test, still_in_scope};
+ghost use Rattle.admission.specs.Names.{declared_in, in_scope_at, scope_test};
+ghost use Rattle.admission.specs.OpenScopes.{scope_decides};
 
-use crate::latest::Latest;
-use script::{Construct, Pos, Table};
+use crate::names::{NameRule, first_unkept};
+use crate::spot::Spot;
+use script::{Construct, Loc, Pos};
 use structure::Formed;
 
 // The lowest place at which the rule is broken.
 pub(crate) fn first_unscoped(script: &Formed<'_>) -> Option<Pos>
     ensures { result ≡ first_broken R.Scope (formed_script script.now) }
 {
-    let table = script.table();
-    let mut locals = Latest::new();
-    for p in 0..table.size() {
-        let construct = table.construct(Pos(p));
-        if !is_kept(&table, &locals, Pos(p), construct) {
-            return Some(Pos(p));
+    first_unkept::<Scopes>(script)
+}
+
+// A local is declared at most once, so its declaration is the one that was last seen.
+struct Scopes;
+
+impl NameRule for Scopes {
+    ghost rule = { R.Scope };
+
+    ghost introduced = { declared_in };
+
+    ghost is_kept = { scope_test };
+
+    ghost decides = { scope_decides };
+
+    // The local that is declared.
+    fn introduced(construct: Construct) -> Option<u8> {
+        match construct {
+            Construct::Declaration(local) => Some(local.0),
+            _ => None,
         }
-        locals.see(declared_in(construct), Pos(p));
     }
-    None
-}
 
-// The local that is declared.
-fn declared_in(construct: Construct) -> Option<u8>
-    ensures { result ≡ declared_in construct }
-{
-    match construct {
-        Construct::Declaration(local) => Some(local.0),
-        _ => None,
-    }
-}
-
-fn is_kept(table: &Table<'_>, locals: &Latest, place: Pos, construct: Construct) -> bool
-    requires { InSection (length (script_of table.now).locals) (script_of table.now).labels construct }
-    ensures { result ≡ scope_test (script_of table.now) locals.now.places place.0 construct }
-{
-    match construct {
-        Construct::Declaration(local) => locals.of(local.0).is_none(),
-        Construct::Local(local) | Construct::Assignment(local) => {
-            is_in_scope(table, place, locals.of(local.0))
+    fn is_kept(spot: &Spot<'_>, construct: Construct) -> bool {
+        match construct {
+            Construct::Declaration(local) => spot.latest.of(local.0).is_none(),
+            Construct::Local(local) | Construct::Assignment(local) => spot.is_in_scope(local),
+            _ => true,
         }
-        _ => true,
     }
 }
 
-// Whether the scope of a declaration reaches to a place: to the end of the declaration's parent.
-fn is_in_scope(table: &Table<'_>, place: Pos, declaration: Option<Pos>) -> bool
-    ensures { result ≡ still_in_scope (script_of table.now) place.0 declaration }
-{
-    match declaration {
-        Some(declaration) => place.0 < table.end(table.up(declaration)).0,
-        None => false,
+impl Spot<'_> {
+    // Whether the place is in the scope of a local, which reaches to the end of the parent of its declaration.
+    fn is_in_scope(&self, local: Loc) -> bool
+        ensures { result ≡ in_scope_at self.now local.0 }
+    {
+        let Some(declaration) = self.latest.of(local.0) else {
+            return false;
+        };
+        self.place < self.table.end(self.table.up(declaration))
     }
 }

@@ -1,8 +1,7 @@
 -- What reading answers keeps the laws, and follows from what the code found.
-use Rattle.std.proofs.Common.{◌≡◌, ℕ, ◌+◌, ◌<◌, ◌≤◌, ◌⊎◌, List, length, is_ok, Ok, Err, Result, sym, ap, ◌∙◌, subst, ap₂, inl, inr, ⊎_elim, arith}
+use Rattle.std.proofs.Common.{◌≡◌, ℕ, ◌+◌, ◌≤◌, List, length, is_ok, Ok, Err, Result, sym, ap, ◌∙◌, subst, ap₂, inl, inr, arith}
 use Rattle.java.specs.declared.types.Primitive.{Primitive}
 use Rattle.script_file.specs.declared.fault.FileFault.{FileFault}
-use Rattle.script_file.specs.declared.fault.FileFault.TheVariants.{Room}
 use Rattle.script_file.specs.declared.file.Sizes.{Sizes}
 use Rattle.script.specs.declared.node.Node.{Node}
 use Rattle.script.specs.Scripts.{Script}
@@ -15,10 +14,10 @@ use Rattle.script_file.proofs.Blame.{blamed}
 use Rattle.script_file.proofs.Bytes.{Octets}
 use Rattle.script_file.proofs.Found.{found}
 use Rattle.script_file.proofs.OfFile.{file_read}
-use Rattle.script_file.proofs.Placed.{placed_fits, placed_full, placed_refused, placed_there}
+use Rattle.script_file.proofs.Placed.{placed_fits, placed_refused, placed_there}
 use Rattle.script_file.proofs.Sections.{script_parts, section_parts}
 use Rattle.script_file.proofs.Short.{cut_short}
-use Rattle.script_file.proofs.Then.{mapped_fault, mapped_parts, then_err, then_fault, then_ok, then_parts}
+use Rattle.script_file.proofs.Then.{mapped_parts, then_err, then_fault, then_ok, then_parts}
 use Rattle.script_file.proofs.ToFile.{count_parts, read_file}
 
 module _ (types nodes : ℕ) (bs : List ℕ) (bytes : Octets bs) where
@@ -65,20 +64,7 @@ module _ (types nodes : ℕ) (bs : List ℕ) (bytes : Octets bs) where
   pub lawful : Lawful types nodes bs (answer types nodes bs)
   lawful = record { exact = exact; truncated = truncated; refused = λ f. (blames f, found bs bytes types nodes f); decided = decided }
 
-  pub answer_fault : {f : FileFault} → mapped sizes_of (script_in bs) ≡ Err f → answer types nodes bs ≡ Err f
-  answer_fault h = then_err (placed types nodes) (mapped_fault sizes_of (script_in bs) h)
-
   module _ (z : Sizes) (sized : mapped sizes_of (script_in bs) ≡ Ok z) where
-    pub answer_room : (types < z.locals) ⊎ (nodes < z.nodes) → answer types nodes bs ≡ Err Room
-    answer_room h =
-        let p = mapped_parts sizes_of (script_in bs) sized in
-        let s = p.0 in
-        let l : length s.locals ≡ z.locals = ap (λ (y : Sizes). y.locals) p.2 in
-        let n : length s.nodes ≡ z.nodes = ap (λ (y : Sizes). y.nodes) p.2 in
-        let full : (types < length s.locals) ⊎ (nodes < length s.nodes) =
-        ⊎_elim (λ (a : types < z.locals). inl (omega arith)) (λ (b : nodes < z.nodes). inr (omega arith)) h in
-        then_ok (placed types nodes) p.1 ∙ placed_full types nodes s full
-
     -- what was tested is there to be written
     record Tested : Type 0 where
       pub script : Script
@@ -119,9 +105,6 @@ module _ (types nodes : ℕ) (bs : List ℕ) (bytes : Octets bs) where
           let l : length s.locals ≡ z.locals = ap (λ (y : Sizes). y.locals) t.sizes in
           let n : length s.nodes ≡ z.nodes = ap (λ (y : Sizes). y.nodes) t.sizes in
           then_ok (placed types nodes) t.read ∙ placed_fits types nodes s (omega arith) (omega arith)
-
-      pub answer_sizes : mapped sizes_of (answer types nodes bs) ≡ Ok z
-      answer_sizes = ap (mapped sizes_of) whole ∙ ap (λ (y : Sizes). Ok y) tested.sizes
 
       answer_right : (written : List Primitive) (put : List Node)
           → entries (type_at bs) 1 2 z.locals ≡ Ok written → entries (node_at bs) 14 (6 + z.locals) z.nodes ≡ Ok put

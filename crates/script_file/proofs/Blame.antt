@@ -1,5 +1,5 @@
 -- A refusal names the first faulty part: all before it is right, and the part itself is not.
-use Rattle.std.proofs.Common.{◌≡◌, ℕ, zero, suc, ◌+◌, ◌*◌, ◌<◌, ◌≤◌, ◌||◌, ltb, ◌⊎◌, List, [], ◌∷◌, ◌++◌, length, get_or, take, Some, None, Ok, Err, Option, Result, sym, refl, ap, ◌∙◌, subst, inl, inr, suc-mul, zero-mul, arith}
+use Rattle.std.proofs.Common.{◌≡◌, ℕ, zero, suc, ◌+◌, ◌*◌, ◌<◌, ◌≤◌, ◌||◌, ltb, ◌⊎◌, List, [], ◌∷◌, ◌++◌, length, get_or, take, Some, None, Ok, Err, Option, Result, sym, refl, ap, ◌∙◌, subst, inl, inr, arith}
 use Rattle.std.proofs.lemmas.Bool.{ltb-false, ltb-true}
 use Rattle.std.specs.Option.{ok_or}
 use Rattle.std.specs.List.{flat_map, AllByRecursion}
@@ -14,11 +14,12 @@ use Rattle.script_file.specs.Laws.{FirstFault, NoFileBegins, ValidBefore}
 use Rattle.script_file.specs.Reading.{and_then, chunk_at, count_at, end_at, entries, labels_in, limited, locals_in, node_at, nodes_in, script_in, section, type_at}
 use Rattle.script_file.proofs.Agree.{count_agrees, type_agrees}
 use Rattle.script_file.proofs.Bytes.{Octets}
+use Rattle.script_file.proofs.Entries.{first_offset, joined, later_offset, parted}
 use Rattle.script_file.proofs.OfFile.{file_parts}
 use Rattle.script_file.proofs.Sections.{entries_length, script_stages, section_parts, then_end, then_labels, then_nodes}
 use Rattle.script_file.proofs.ToFile.{count_parts, entries_stand, node_stands, type_stands}
 use Rattle.script_file.proofs.Witness.{after_count, begun, count_front, labels_front, longer, valid_at_count, valid_at_labels, valid_at_node, valid_at_start, valid_at_type, types_front}
-use Rattle.script_file.proofs.Then.{not_both, passed, stopped, then_fault, then_ok, then_parts}
+use Rattle.script_file.proofs.Then.{not_both, passed, stopped, then_fault}
 
 -- the first entry that is wrong, and the right ones before it
 pub record FirstWrong {X : Type 0} (at : ℕ → Result X FileFault) (size o n : ℕ) (f : FileFault) : Type 0 where
@@ -30,21 +31,16 @@ pub record FirstWrong {X : Type 0} (at : ℕ → Result X FileFault) (size o n :
 
 module _ {X : Type 0} (at : ℕ → Result X FileFault) (size : ℕ) where
   wrong_here : (o n : ℕ) {f : FileFault} → at o ≡ Err f → FirstWrong at size o (suc n) f
-  wrong_here o n e =
-      let z : o + 0 * size ≡ o = omega (arith, zero-mul size) in
-      record { index = 0; right = []; inside = omega arith; before = refl; wrong = ap at z ∙ e }
+  wrong_here o n e = record { index = 0; right = []; inside = omega arith; before = refl; wrong = ap at (first_offset o size) ∙ e }
 
   wrong_later : (o n : ℕ) {f : FileFault} (x : X) → at o ≡ Ok x → FirstWrong at size (o + size) n f → FirstWrong at size o (suc n) f
-  wrong_later o n x e w =
-      let m : suc w.index * size ≡ w.index * size + size = suc-mul w.index size in
-      let p : o + suc w.index * size ≡ o + size + w.index * size = omega arith in
-      record {
-        index = suc w.index;
-        right = x ∷ w.right;
-        inside = omega (arith, w.inside);
-        before = then_ok (λ y. and_then (entries at size (o + size) w.index) (λ ys. Ok (y ∷ ys))) e ∙ then_ok (λ ys. Ok (x ∷ ys)) w.before;
-        wrong = ap at p ∙ w.wrong;
-      }
+  wrong_later o n x e w = record {
+    index = suc w.index;
+    right = x ∷ w.right;
+    inside = omega (arith, w.inside);
+    before = joined at size o w.index e w.before;
+    wrong = ap at (later_offset o size w.index) ∙ w.wrong;
+  }
 
   one_more : (o n : ℕ) {f : FileFault} → (entries at size (o + size) n ≡ Err f → FirstWrong at size (o + size) n f)
       → entries at size o (suc n) ≡ Err f → FirstWrong at size o (suc n) f
@@ -64,17 +60,10 @@ module _ {X : Type 0} (at : ℕ → Result X FileFault) (size : ℕ) where
   -- where all are right, each is
   pub each_right : (o n : ℕ) {xs : List X} → entries at size o n ≡ Ok xs → (i : ℕ) → i < n → (x : X) × (at (o + i * size) ≡ Ok x)
   each_right o zero h i l = absurd (omega arith)
-  each_right o (suc n) h zero l =
-      let z : o + 0 * size ≡ o = omega (arith, zero-mul size) in
-      let p = then_parts (at o) (λ x. and_then (entries at size (o + size) n) (λ xs. Ok (x ∷ xs))) h in
-      (p.0, ap at z ∙ p.1)
+  each_right o (suc n) h zero l = let p = parted at size o n h in (p.first, ap at (first_offset o size) ∙ p.here)
   each_right o (suc n) h (suc i) l =
-      let p = then_parts (at o) (λ x. and_then (entries at size (o + size) n) (λ xs. Ok (x ∷ xs))) h in
-      let q = then_parts (entries at size (o + size) n) (λ xs. Ok (p.0 ∷ xs)) p.2 in
-      let r = each_right (o + size) n q.1 i (omega arith) in
-      let m : suc i * size ≡ i * size + size = suc-mul i size in
-      let e : o + suc i * size ≡ o + size + i * size = omega arith in
-      (r.0, ap at e ∙ r.1)
+      let r = each_right (o + size) n (parted at size o n h).behind i (omega arith) in
+      (r.0, ap at (later_offset o size i) ∙ r.1)
 
 unknown : {X : Type 0} (t : Option X) (g : FileFault) {f : FileFault} → ok_or t g ≡ Err f → f ≡ g
 unknown None g h = cc

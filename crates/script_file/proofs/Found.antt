@@ -1,5 +1,5 @@
 -- Where the first faulty part is as a refusal says, reading finds it and answers that refusal.
-use Rattle.std.proofs.Common.{◌≡◌, ℕ, zero, suc, ◌+◌, ◌*◌, ◌<◌, ◌≤◌, ltb, List, [], ◌∷◌, ◌++◌, length, take, Ok, Err, Result, sym, refl, ap, ◌∙◌, subst, inl, inr, suc-mul, zero-mul, arith, length-take}
+use Rattle.std.proofs.Common.{◌≡◌, ℕ, zero, suc, ◌+◌, ◌*◌, ◌<◌, ◌≤◌, ltb, List, [], ◌∷◌, ◌++◌, length, take, Ok, Err, Result, sym, refl, ap, ◌∙◌, subst, inl, inr, arith, length-take}
 use Rattle.std.proofs.lemmas.List.{take_all}
 use Rattle.std.proofs.lemmas.Bool.{cases_lt, cond-true, lt-ltb}
 use Rattle.std.specs.List.{flat_map}
@@ -10,16 +10,17 @@ use Rattle.script_file.specs.declared.fault.FileFault.{FileFault}
 use Rattle.script_file.specs.declared.fault.FileFault.TheVariants.{Cut, Count, TypeCode, Trailing, Room}
 use Rattle.script_file.specs.Format.{Within, bytes_of, file, part, type_bytes}
 use Rattle.script_file.specs.Laws.{FirstFault, HasPart, NoFileBegins, ValidBefore, code_of_local, labels_count, locals_count, node_at_place, nodes_count}
-use Rattle.script_file.specs.Reading.{and_then, answer, chunk_at, count_at, end_at, entries, labels_in, locals_in, node_at, nodes_in, placed, script_in, section, type_at}
+use Rattle.script_file.specs.Reading.{answer, chunk_at, count_at, end_at, entries, labels_in, locals_in, node_at, nodes_in, placed, script_in, section, type_at}
 use Rattle.script_file.proofs.Agree.{count_agrees, entries_agree, node_agrees, type_agrees}
 use Rattle.script_file.proofs.Blame.{count_wrong, few, few_labels, labels_there, nodes_there, type_wrong, types_there}
 use Rattle.script_file.proofs.Bytes.{Octets}
 use Rattle.script_file.proofs.OfFile.{file_parts, file_read, length-file}
 use Rattle.script_file.proofs.Placed.{placed_full}
-use Rattle.script_file.proofs.Sections.{entries_length, script_stages, section_miscounted, section_of, section_parts, then_end, then_labels, then_nodes}
+use Rattle.script_file.proofs.Sections.{entries_length, section_miscounted, section_of, section_parts, stops_at_end, stops_at_labels, stops_at_locals, stops_at_nodes}
+use Rattle.script_file.proofs.Entries.{first_offset, first_stops, joined, later_offset, other_stops, parted}
 use Rattle.script_file.proofs.ToFile.{count_limit, count_parts}
 use Rattle.script_file.proofs.Witness.{valid_at_count, valid_at_labels, valid_at_node, valid_at_type}
-use Rattle.script_file.proofs.Then.{then_err, then_ok, then_parts}
+use Rattle.script_file.proofs.Then.{then_err, then_ok}
 
 module _ {X : Type 0} (at : ℕ → Result X FileFault) (size : ℕ) where
   -- the first of the entries are there too
@@ -27,41 +28,25 @@ module _ {X : Type 0} (at : ℕ → Result X FileFault) (size : ℕ) where
   entries_fewer o n h zero l = ([], refl)
   entries_fewer o zero h (suc i) l = absurd (omega arith)
   entries_fewer o (suc n) h (suc i) l =
-      let p = then_parts (at o) (λ x. and_then (entries at size (o + size) n) (λ xs. Ok (x ∷ xs))) h in
-      let q = then_parts (entries at size (o + size) n) (λ xs. Ok (p.0 ∷ xs)) p.2 in
-      let r = entries_fewer (o + size) n q.1 i (omega arith) in (
-        p.0 ∷ r.0,
-        then_ok (λ x. and_then (entries at size (o + size) i) (λ xs. Ok (x ∷ xs))) p.1 ∙ then_ok (λ xs. Ok (p.0 ∷ xs)) r.1,
-      )
+      let p = parted at size o n h in
+      let r = entries_fewer (o + size) n p.behind i (omega arith) in
+      (p.first ∷ r.0, joined at size o i p.here r.1)
 
   -- one right entry more
   entries_more : (o i : ℕ) {ys : List X} {x : X} → entries at size o i ≡ Ok ys → at (o + i * size) ≡ Ok x → (zs : List X) × (entries at size o (suc i) ≡ Ok zs)
-  entries_more o zero {ys} {x} e w =
-      let z : o + 0 * size ≡ o = omega (arith, zero-mul size) in
-      (x ∷ [], then_ok (λ y. and_then (entries at size (o + size) 0) (λ xs. Ok (y ∷ xs))) (sym (ap at z) ∙ w))
+  entries_more o zero {ys} {x} e w = (x ∷ [], joined at size o 0 (sym (ap at (first_offset o size)) ∙ w) refl)
   entries_more o (suc i) e w =
-      let p = then_parts (at o) (λ x. and_then (entries at size (o + size) i) (λ xs. Ok (x ∷ xs))) e in
-      let q = then_parts (entries at size (o + size) i) (λ xs. Ok (p.0 ∷ xs)) p.2 in
-      let m : suc i * size ≡ i * size + size = suc-mul i size in
-      let s : o + suc i * size ≡ o + size + i * size = omega arith in
-      let r = entries_more (o + size) i q.1 (sym (ap at s) ∙ w) in (
-        p.0 ∷ r.0,
-        then_ok (λ x. and_then (entries at size (o + size) (suc i)) (λ xs. Ok (x ∷ xs))) p.1 ∙ then_ok (λ xs. Ok (p.0 ∷ xs)) r.1,
-      )
+      let p = parted at size o i e in
+      let r = entries_more (o + size) i p.behind (sym (ap at (later_offset o size i)) ∙ w) in
+      (p.first ∷ r.0, joined at size o (suc i) p.here r.1)
 
   -- a wrong entry behind right ones stops the reading
   entries_stop : (o n i : ℕ) {ys : List X} {f : FileFault} → entries at size o i ≡ Ok ys → i < n → at (o + i * size) ≡ Err f → entries at size o n ≡ Err f
   entries_stop o zero i e l w = absurd (omega arith)
-  entries_stop o (suc n) zero e l w =
-      let z : o + 0 * size ≡ o = omega (arith, zero-mul size) in
-      then_err (λ x. and_then (entries at size (o + size) n) (λ xs. Ok (x ∷ xs))) (sym (ap at z) ∙ w)
+  entries_stop o (suc n) zero e l w = first_stops at size o n (sym (ap at (first_offset o size)) ∙ w)
   entries_stop o (suc n) (suc i) e l w =
-      let p = then_parts (at o) (λ x. and_then (entries at size (o + size) i) (λ xs. Ok (x ∷ xs))) e in
-      let q = then_parts (entries at size (o + size) i) (λ xs. Ok (p.0 ∷ xs)) p.2 in
-      let m : suc i * size ≡ i * size + size = suc-mul i size in
-      let s : o + suc i * size ≡ o + size + i * size = omega arith in
-      then_ok (λ x. and_then (entries at size (o + size) n) (λ xs. Ok (x ∷ xs))) p.1
-      ∙ then_err (λ xs. Ok (p.0 ∷ xs)) (entries_stop (o + size) n i q.1 (omega arith) (sym (ap at s) ∙ w))
+      let p = parted at size o i e in
+      other_stops at size o n p.here (entries_stop (o + size) n i p.behind (omega arith) (sym (ap at (later_offset o size i)) ∙ w))
 
 chunk_cut : (bs : List ℕ) (o k : ℕ) → length bs < o + k → chunk_at bs o k ≡ Err (Cut o)
 chunk_cut bs o k h = cond-true (ltb (length bs) (o + k)) (Err (Cut o)) (Ok (part o k bs)) (lt-ltb (length bs) (o + k) h)
@@ -108,26 +93,19 @@ module _ (bs : List ℕ) (s : Script) (w : Within s) (n : ℕ) (same : take n bs
       (q.0, entries_agree bs (file s) n same node_at 14 (node_agrees bs (file s) n same) (4 + l + 2) i (omega arith) ∙ q.1)
 
   -- a fault in a section, after the sections before it were read
-  fault_in_locals : {f : FileFault} → locals_in bs ≡ Err f → script_in bs ≡ Err f
-  fault_in_locals e = script_stages bs ∙ then_err (then_labels bs) e
-
   fault_in_labels : {f : FileFault} → 2 + l ≤ n → labels_in bs l ≡ Err f → script_in bs ≡ Err f
-  fault_in_labels h e = script_stages bs ∙ then_ok (then_labels bs) (locals_alike h) ∙ then_err (then_nodes bs s.locals) e
+  fault_in_labels h e = stops_at_labels bs (locals_alike h) e
 
   fault_in_nodes : {f : FileFault} → 4 + l ≤ n → nodes_in bs l ≡ Err f → script_in bs ≡ Err f
-  fault_in_nodes h e =
-      script_stages bs ∙ then_ok (then_labels bs) (locals_alike (omega arith)) ∙ then_ok (then_nodes bs s.locals) (labels_alike h)
-      ∙ then_err (then_end bs s.locals s.labels) e
+  fault_in_nodes h e = stops_at_nodes bs (locals_alike (omega arith)) (labels_alike h) e
 
   fault_at_end : {f : FileFault} → 6 + l + length s.nodes * 14 ≤ n → end_at bs (6 + l + length s.nodes * 14) ≡ Err f → script_in bs ≡ Err f
-  fault_at_end h e =
-      script_stages bs ∙ then_ok (then_labels bs) (locals_alike (omega arith)) ∙ then_ok (then_nodes bs s.locals) (labels_alike (omega arith))
-      ∙ then_ok (then_end bs s.locals s.labels) (nodes_alike h) ∙ then_err _ e
+  fault_at_end h e = stops_at_end bs (locals_alike (omega arith)) (labels_alike (omega arith)) (nodes_alike h) e
 
   fault_in_types : (i : ℕ) {f : FileFault} → i < l → 2 + i ≤ n → type_at bs (2 + i) ≡ Err f → script_in bs ≡ Err f
   fault_in_types i h r e =
       let p : 2 + i * 1 ≡ 2 + i = omega arith in
-      fault_in_locals
+      stops_at_locals bs
       (section_of bs type_at 1 0 0 64 (counted (omega arith)) ∙ entries_stop (type_at bs) 1 2 l i (types_before i (omega arith) r).1 h (ap (type_at bs) p ∙ e))
 
   fault_in_node : (i : ℕ) {f : FileFault} → i < length s.nodes → 6 + l + i * 14 ≤ n → node_at bs (6 + l + i * 14) ≡ Err f → script_in bs ≡ Err f
@@ -141,7 +119,7 @@ module _ (bs : List ℕ) where
   -- 1: the part is not whole
   pub found_cut : (s : Script) (o size : ℕ) → HasPart s o size → Within s → take o bs ≡ take o (file s) → length bs < o + size → script_in bs ≡ Err (Cut o)
   found_cut s o size locals_count w same h =
-      fault_in_locals bs s w 0 refl (section_miscounted bs type_at 1 0 0 64 (then_err _ (chunk_cut bs 0 2 h)))
+      stops_at_locals bs (section_miscounted bs type_at 1 0 0 64 (then_err _ (chunk_cut bs 0 2 h)))
   found_cut s o size (code_of_local i inside) w same h =
       fault_in_types bs s w (2 + i) same i inside (omega arith) (then_err _ (chunk_cut bs (2 + i) 1 h))
   found_cut s o size labels_count w same h =
@@ -220,7 +198,7 @@ module _ (bs : List ℕ) where
     found_count : (s : Script) (o size : ℕ) → HasPart s o size → size ≡ 2 → Within s → take o bs ≡ take o (file s) → o + 2 ≤ length bs
         → NoFileBegins bs (o + 2) → script_in bs ≡ Err (Count o)
     found_count s o size locals_count two w same whole none =
-        fault_in_locals bs s w 0 refl (section_miscounted bs type_at 1 0 0 64 (count_refused 0 0 64 whole (λ n e. some_locals n none e)))
+        stops_at_locals bs (section_miscounted bs type_at 1 0 0 64 (count_refused 0 0 64 whole (λ n e. some_locals n none e)))
     found_count s o size (code_of_local i inside) two w same whole none = absurd (omega arith)
     found_count s o size labels_count two w same whole none =
         fault_in_labels bs s w (2 + length s.locals) same (omega arith) (count_refused (2 + length s.locals) 0 32 whole (λ k e. some_labels s w k same none e))

@@ -13,8 +13,9 @@ use Rattle.script_file.specs.declared.fault.FileFault.TheVariants.{Cut, Count, T
 use Rattle.script.specs.declared.node.Node.{Node}
 use Rattle.script.specs.Scripts.{Script}
 use Rattle.script_file.specs.Format.{NodeFits, Within, bytes_of, number_of, part, type_bytes, node_bytes, node_of, file}
-use Rattle.script_file.specs.Reading.{and_then, chunk_at, limited, count_at, type_at, node_at, entries, section, script_in}
+use Rattle.script_file.specs.Reading.{chunk_at, limited, count_at, type_at, node_at, entries, section, script_in}
 use Rattle.script_file.proofs.Bytes.{length-bytes_of, number_of-bytes_of, part_between}
+use Rattle.script_file.proofs.Entries.{joined}
 use Rattle.script_file.proofs.Sections.{Parts, section_of, script_from_parts}
 use Rattle.script_file.proofs.Then.{then_ok}
 
@@ -80,8 +81,7 @@ module _ {X : Type 0} (at : List ℕ → ℕ → Result X FileFault) (written : 
       let others : entries (at bs) size (o + size) (length xs) ≡ Ok xs =
       ap (λ (t : List ℕ). entries (at t) size (o + size) (length xs)) next
       ∙ entries_between (before ++ written x) behind (o + size) xs all.1 longer in
-      then_ok (λ y. and_then (entries (at bs) size (o + size) (length xs)) (λ ys. Ok (y ∷ ys))) first
-      ∙ then_ok (λ ys. Ok (x ∷ ys)) others
+      joined (at bs) size o (length xs) first others
 
   pub section_between : (before behind : List ℕ) (o least most : ℕ) (xs : List X) → AllByRecursion Good xs → length before ≡ o
       → least ≤ length xs → length xs ≤ most → length xs < 65536

@@ -1,22 +1,20 @@
 -- The sections of a file, and the script that they make.
-use Rattle.std.proofs.Common.{◌≡◌, ℕ, zero, suc, ◌+◌, ◌*◌, List, [], ◌∷◌, length, Ok, Err, Result, sym, refl, ap, ◌∙◌, subst}
+use Rattle.std.proofs.Common.{◌≡◌, ℕ, zero, suc, ◌+◌, ◌*◌, List, [], length, Ok, Err, Result, sym, refl, ap, ap₂, ◌∙◌, subst}
 use Rattle.java.specs.declared.types.Primitive.{Primitive}
 use Rattle.script_file.specs.declared.fault.FileFault.{FileFault}
-use Rattle.script_file.specs.declared.file.Sizes.{Sizes}
 use Rattle.script.specs.declared.node.Node.{Node}
 use Rattle.script.specs.Scripts.{Script}
 use Rattle.script_file.specs.Reading.{and_then, mapped, locals_in, labels_in, nodes_in, count_at, end_at, entries, section, script_in, sizes_of}
 use Rattle.script_file.specs.Steps.{tested}
+use Rattle.script_file.proofs.Entries.{parted}
 use Rattle.script_file.proofs.Then.{then_ok, then_err, then_parts, mapped_fault, mapped_parts}
 
 -- as many entries as there should be
 pub entries_length : {X : Type 0} (at : ℕ → Result X FileFault) (size o n : ℕ) {xs : List X} → entries at size o n ≡ Ok xs → length xs ≡ n
 entries_length at size o zero {xs} h = let e : [] ≡ xs = cc in sym (ap length e)
 entries_length at size o (suc n) {xs} h =
-    let p = then_parts (at o) (λ x. and_then (entries at size (o + size) n) (λ ys. Ok (x ∷ ys))) h in
-    let q = then_parts (entries at size (o + size) n) (λ ys. Ok (p.0 ∷ ys)) p.2 in
-    let e : p.0 ∷ q.0 ≡ xs = let k = q.2 in cc in
-    sym (ap length e) ∙ ap suc (entries_length at size (o + size) n q.1)
+    let p = parted at size o n h in
+    sym (ap length p.all) ∙ ap suc (entries_length at size (o + size) n p.behind)
 
 module _ {X : Type 0} (bs : List ℕ) (at : List ℕ → ℕ → Result X FileFault) (size o least most : ℕ) where
   pub section_of : {n : ℕ} → count_at bs o least most ≡ Ok n → section bs at size o least most ≡ entries (at bs) size (o + 2) n
@@ -45,49 +43,6 @@ module _ {X : Type 0} (bs : List ℕ) (at : List ℕ → ℕ → Result X FileFa
       let e = entries_length (at bs) size (o + 2) p.0 p.2 in
       (p.1 ∙ ap (λ (n : ℕ). Ok n) (sym e), ap (entries (at bs) size (o + 2)) e ∙ p.2)
 
--- only the sizes, section by section
-abbrev pub from_end : List ℕ → ℕ → ℕ → ℕ → Result Sizes FileFault
-from_end bs locals labels nodes =
-    and_then (end_at bs (6 + locals + nodes * 14)) (λ _. Ok (record { locals = locals; labels = labels; nodes = nodes }))
-
-abbrev pub from_nodes : List ℕ → ℕ → ℕ → Result Sizes FileFault
-from_nodes bs locals labels = and_then (mapped length (nodes_in bs locals)) (from_end bs locals labels)
-
-abbrev pub from_labels : List ℕ → ℕ → Result Sizes FileFault
-from_labels bs locals = and_then (labels_in bs locals) (from_nodes bs locals)
-
--- the sizes of what is read depend on the sections' sizes alone
-module _ (labels_at : ℕ → Result ℕ FileFault) (nodes_at : ℕ → Result (List Node) FileFault) (end_of_lem : ℕ → ℕ → Result (Unit {0}) FileFault) where
-  sized_end : (locals : List Primitive) (labels : ℕ) (nodes : List Node) (r : Result (Unit {0}) FileFault)
-      → mapped sizes_of (and_then r (λ _. Ok (record { locals = locals; labels = labels; nodes = nodes })))
-      ≡ and_then r (λ _. Ok (record { locals = length locals; labels = labels; nodes = length nodes }))
-  sized_end locals labels nodes (Ok u) = refl
-  sized_end locals labels nodes (Err e) = refl
-
-  sized_nodes : (locals : List Primitive) (labels : ℕ) (r : Result (List Node) FileFault)
-      → mapped sizes_of (and_then r (λ nodes. and_then (end_of_lem (length locals) (length nodes)) (λ _. Ok (record { locals = locals; labels = labels; nodes = nodes }))))
-      ≡ and_then (mapped length r) (λ nodes. and_then (end_of_lem (length locals) nodes) (λ _. Ok (record { locals = length locals; labels = labels; nodes = nodes })))
-  sized_nodes locals labels (Ok nodes) = sized_end locals labels nodes (end_of_lem (length locals) (length nodes))
-  sized_nodes locals labels (Err e) = refl
-
-  sized_labels : (locals : List Primitive) (r : Result ℕ FileFault)
-      → mapped sizes_of (and_then r (λ labels. and_then (nodes_at (length locals)) (λ nodes. and_then (end_of_lem (length locals) (length nodes)) (λ _. Ok (record { locals = locals; labels = labels; nodes = nodes })))))
-      ≡ and_then r (λ labels. and_then (mapped length (nodes_at (length locals))) (λ nodes. and_then (end_of_lem (length locals) nodes) (λ _. Ok (record { locals = length locals; labels = labels; nodes = nodes }))))
-  sized_labels locals (Ok labels) = sized_nodes locals labels (nodes_at (length locals))
-  sized_labels locals (Err e) = refl
-
-  sized_locals : (r : Result (List Primitive) FileFault)
-      → mapped sizes_of (and_then r (λ locals. and_then (labels_at (length locals)) (λ labels. and_then (nodes_at (length locals)) (λ nodes. and_then (end_of_lem (length locals) (length nodes)) (λ _. Ok (record { locals = locals; labels = labels; nodes = nodes }))))))
-      ≡ and_then (mapped length r) (λ locals. and_then (labels_at locals) (λ labels. and_then (mapped length (nodes_at locals)) (λ nodes. and_then (end_of_lem locals nodes) (λ _. Ok (record { locals = locals; labels = labels; nodes = nodes })))))
-  sized_locals (Ok locals) = sized_labels locals (labels_at (length locals))
-  sized_locals (Err e) = refl
-
-pub script_sizes : (bs : List ℕ) → mapped sizes_of (script_in bs) ≡ and_then (mapped length (locals_in bs)) (from_labels bs)
-unfolding script_in
-script_sizes bs =
-    sized_locals (λ locals. labels_in bs locals) (λ locals. nodes_in bs locals)
-    (λ locals nodes. end_at bs (6 + locals + nodes * 14)) (locals_in bs)
-
 -- what is left to read once the locals, the labels or the nodes are read
 abbrev pub then_end : List ℕ → List Primitive → ℕ → List Node → Result Script FileFault
 then_end bs locals labels nodes =
@@ -102,6 +57,29 @@ then_labels bs locals = and_then (labels_in bs (length locals)) (then_nodes bs l
 pub script_stages : (bs : List ℕ) → script_in bs ≡ and_then (locals_in bs) (then_labels bs)
 unfolding script_in
 script_stages bs = refl
+
+-- the first section that is wrong decides
+module _ (bs : List ℕ) where
+  pub stops_at_locals : {f : FileFault} → locals_in bs ≡ Err f → script_in bs ≡ Err f
+  stops_at_locals wrong = script_stages bs ∙ then_err (then_labels bs) wrong
+
+  module _ {xs : List Primitive} (locals : locals_in bs ≡ Ok xs) where
+    to_labels : script_in bs ≡ then_labels bs xs
+    to_labels = script_stages bs ∙ then_ok (then_labels bs) locals
+
+    pub stops_at_labels : {f : FileFault} → labels_in bs (length xs) ≡ Err f → script_in bs ≡ Err f
+    stops_at_labels wrong = to_labels ∙ then_err (then_nodes bs xs) wrong
+
+    module _ {k : ℕ} (labels : labels_in bs (length xs) ≡ Ok k) where
+      to_nodes : script_in bs ≡ then_nodes bs xs k
+      to_nodes = to_labels ∙ then_ok (then_nodes bs xs) labels
+
+      pub stops_at_nodes : {f : FileFault} → nodes_in bs (length xs) ≡ Err f → script_in bs ≡ Err f
+      stops_at_nodes wrong = to_nodes ∙ then_err (then_end bs xs k) wrong
+
+      pub stops_at_end : {ys : List Node} {f : FileFault} → nodes_in bs (length xs) ≡ Ok ys
+          → end_at bs (6 + length xs + length ys * 14) ≡ Err f → script_in bs ≡ Err f
+      stops_at_end nodes wrong = to_nodes ∙ then_ok (then_end bs xs k) nodes ∙ then_err _ wrong
 
 -- each section of a script that was read, and nothing behind them
 pub record Parts (bs : List ℕ) (s : Script) : Type 0 where
@@ -123,3 +101,41 @@ script_parts bs s h =
     let t = then_parts (end_at bs (6 + length p.0 + length r.0 * 14)) (λ _. Ok (record { locals = p.0; labels = q.0; nodes = r.0 })) r.2 in
     let e : record { locals = p.0; labels = q.0; nodes = r.0 } ≡ s = let k = t.2 in cc in
     subst (Parts bs) e (record { locals = p.1; labels = q.1; nodes = r.1; end = t.1 })
+
+-- the sizes of what is read follow from the sections' sizes alone
+module _ (bs : List ℕ) where
+  pub locals_wrong : {f : FileFault} → mapped length (locals_in bs) ≡ Err f → mapped sizes_of (script_in bs) ≡ Err f
+  locals_wrong wrong = ap (mapped sizes_of) (stops_at_locals bs (mapped_fault length (locals_in bs) wrong))
+
+  module _ {l : ℕ} (locals : mapped length (locals_in bs) ≡ Ok l) where
+    pub labels_wrong : {f : FileFault} → labels_in bs l ≡ Err f → mapped sizes_of (script_in bs) ≡ Err f
+    labels_wrong wrong =
+        let p = mapped_parts length (locals_in bs) locals in
+        ap (mapped sizes_of) (stops_at_labels bs p.1 (ap (labels_in bs) p.2 ∙ wrong))
+
+    module _ {k : ℕ} (labels : labels_in bs l ≡ Ok k) where
+      pub nodes_wrong : {f : FileFault} → mapped length (nodes_in bs l) ≡ Err f → mapped sizes_of (script_in bs) ≡ Err f
+      nodes_wrong wrong =
+          let p = mapped_parts length (locals_in bs) locals in
+          let fault = mapped_fault length (nodes_in bs l) wrong in
+          ap (mapped sizes_of) (stops_at_nodes bs p.1 (ap (labels_in bs) p.2 ∙ labels) (ap (nodes_in bs) p.2 ∙ fault))
+
+      module _ {n : ℕ} (nodes : mapped length (nodes_in bs l) ≡ Ok n) where
+        pub end_wrong : {f : FileFault} → end_at bs (6 + l + n * 14) ≡ Err f → mapped sizes_of (script_in bs) ≡ Err f
+        end_wrong wrong =
+            let p = mapped_parts length (locals_in bs) locals in
+            let q = mapped_parts length (nodes_in bs l) nodes in
+            let fault = ap₂ (λ (l' n' : ℕ). end_at bs (6 + l' + n' * 14)) p.2 q.2 ∙ wrong in
+            ap (mapped sizes_of) (stops_at_end bs p.1 (ap (labels_in bs) p.2 ∙ labels) (ap (nodes_in bs) p.2 ∙ q.1) fault)
+
+        pub all_right : end_at bs (6 + l + n * 14) ≡ Ok tt → mapped sizes_of (script_in bs) ≡ Ok (record { locals = l; labels = k; nodes = n })
+        all_right right =
+            let p = mapped_parts length (locals_in bs) locals in
+            let q = mapped_parts length (nodes_in bs l) nodes in
+            let parts : Parts bs (record { locals = p.0; labels = k; nodes = q.0 }) = record {
+              locals = p.1;
+              labels = ap (labels_in bs) p.2 ∙ labels;
+              nodes = ap (nodes_in bs) p.2 ∙ q.1;
+              end = ap₂ (λ (l' n' : ℕ). end_at bs (6 + l' + n' * 14)) p.2 q.2 ∙ right;
+            } in
+            ap (mapped sizes_of) (script_from_parts bs _ parts) ∙ (λ i. Ok (record { locals = p.2 i; labels = k; nodes = q.2 i }))

@@ -1,5 +1,5 @@
 -- One part read after another.
-use Rattle.std.proofs.Common.{◌≡◌, ℕ, Bool, true, false, cond, ◌⊎◌, IsErrAnd, Ok, Err, Result, refl, ap, inl, inr, arith}
+use Rattle.std.proofs.Common.{◌≡◌, Bool, true, false, cond, ◌⊎◌, IsErrAnd, Ok, Err, Result, refl, ap, inl, inr}
 use Rattle.script_file.specs.declared.fault.FileFault.{FileFault}
 use Rattle.script_file.specs.Reading.{and_then, mapped}
 
@@ -13,7 +13,7 @@ module _ {A B : Type 0} where
   -- what was read to the end was read in each part
   pub then_parts : (r : Result A FileFault) (next : A → Result B FileFault) {y : B} → and_then r next ≡ Ok y → (x : A) × (r ≡ Ok x) × (next x ≡ Ok y)
   then_parts (Ok x) next h = (x, refl, h)
-  then_parts (Err e) next h = let z : ◌≡◌ {A = ℕ} 0 1 = cc in absurd (omega arith)
+  then_parts (Err e) next h = absurd (cc)
 
   -- what follows needs to be the same only for what was read
   pub then_same : (r : Result A FileFault) (next next' : A → Result B FileFault) → ((x : A) → r ≡ Ok x → next x ≡ next' x) → and_then r next ≡ and_then r next'
@@ -27,25 +27,25 @@ module _ {A B : Type 0} where
 
   pub mapped_parts : (f : A → B) (r : Result A FileFault) {y : B} → mapped f r ≡ Ok y → (x : A) × (r ≡ Ok x) × (f x ≡ y)
   mapped_parts f (Ok x) h = (x, refl, cc)
-  mapped_parts f (Err e) h = let z : ◌≡◌ {A = ℕ} 0 1 = cc in absurd (omega arith)
+  mapped_parts f (Err e) h = absurd (cc)
 
   pub mapped_fault : (f : A → B) (r : Result A FileFault) {e : FileFault} → mapped f r ≡ Err e → r ≡ Err e
-  mapped_fault f (Ok x) h = let z : ◌≡◌ {A = ℕ} 0 1 = cc in absurd (omega arith)
+  mapped_fault f (Ok x) h = absurd (cc)
   mapped_fault f (Err e) h = cc
 
 -- a test that was passed
 pub passed : {X : Type 0} (b : Bool) (e : FileFault) (x : X) {y : X} → cond b (Err e) (Ok x) ≡ Ok y → (b ≡ false) × (x ≡ y)
-passed true e x h = let z : ◌≡◌ {A = ℕ} 0 1 = cc in absurd (omega arith)
+passed true e x h = absurd (cc)
 passed false e x h = (refl, cc)
 
 -- a test that was not passed
 pub stopped : {X : Type 0} (b : Bool) (e : FileFault) (x : X) {f : FileFault} → cond b (Err e) (Ok x) ≡ Err f → (b ≡ true) × (e ≡ f)
 stopped true e x h = (refl, cc)
-stopped false e x h = let z : ◌≡◌ {A = ℕ} 0 1 = cc in absurd (omega arith)
+stopped false e x h = absurd (cc)
 
 -- what is read is no fault
 pub not_both : {X : Type 0} {r : Result X FileFault} {x : X} {f : FileFault} → r ≡ Ok x → r ≡ Err f → ⊥
-not_both p q = let z : ◌≡◌ {A = ℕ} 0 1 = cc in omega arith
+not_both p q = cc
 
 -- the fault that a `?` hands on
 pub handed_on : {B : Type 0} (r : Result B FileFault) (e : FileFault) → IsErrAnd r (λ y. y ≡ e) → r ≡ Err e

@@ -15,9 +15,10 @@ use Rattle.script_file.specs.declared.fault.FileFault.TheVariants.{Cut, Count, T
 use Rattle.script.specs.declared.node.Node.{Node}
 use Rattle.script.specs.Scripts.{Script}
 use Rattle.script_file.specs.Format.{NodeFits, Within, bytes_of, number_of, part, type_bytes, node_bytes, node_of, file}
-use Rattle.script_file.specs.Reading.{and_then, chunk_at, limited, count_at, type_at, node_at, entries}
+use Rattle.script_file.specs.Reading.{chunk_at, limited, count_at, type_at, node_at, entries}
 use Rattle.script_file.proofs.Bytes.{Octets, bytes_of-number_of, number_of-small, length_part, part_part}
 use Rattle.script_file.proofs.Sections.{Parts, section_parts}
+use Rattle.script_file.proofs.Entries.{parted}
 use Rattle.script_file.proofs.Then.{passed, then_parts}
 
 chosen : {X : Type 0} (o : Option X) (e : FileFault) {x : X} → ok_or o e ≡ Ok x → o ≡ Some x
@@ -141,14 +142,12 @@ module _ {X : Type 0} (bs : List ℕ) (at : List ℕ → ℕ → Result X FileFa
       subst (Stands bs (flat_map written) (0 * size) (AllByRecursion Good) o) none
       (record { whole = omega arith; back = ap (λ (k : ℕ). part o k bs) (sym nought); good = tt })
   entries_stand o (suc n) {xs} h e =
-      let p = then_parts (at bs o) (λ x. and_then (entries (at bs) size (o + size) n) (λ ys. Ok (x ∷ ys))) e in
-      let q = then_parts (entries (at bs) size (o + size) n) (λ ys. Ok (p.0 ∷ ys)) p.2 in
-      let one = stands o p.0 p.1 in
-      let others = entries_stand (o + size) n one.whole q.1 in
+      let p = parted (at bs) size o n e in
+      let one = stands o p.first p.here in
+      let others = entries_stand (o + size) n one.whole p.behind in
       let more : suc n * size ≡ n * size + size = suc-mul n size in
       let sum : size + n * size ≡ suc n * size = omega arith in
-      let all : p.0 ∷ q.0 ≡ xs = let k = q.2 in cc in
-      subst (Stands bs (flat_map written) (suc n * size) (AllByRecursion Good) o) all
+      subst (Stands bs (flat_map written) (suc n * size) (AllByRecursion Good) o) p.all
       (record {
         whole = omega (arith, others.whole);
         back = ap₂ ◌++◌ one.back others.back ∙ part_part o bs size (n * size) ∙ ap (λ (k : ℕ). part o k bs) sum;

@@ -2,6 +2,7 @@
 use Rattle.std.proofs.Common.{◌≡◌, ℕ, zero, suc, ◌+◌, ◌-◌, ◌*◌, ◌<◌, ◌≤◌, List, [], ◌∷◌, ◌++◌, length, take, replicate, pos, sym, refl, ap, ◌∙◌, ap₂, append_assoc, arith, length-append, length-take, take-add}
 use lib.ListN.{length-replicate}
 use Rattle.std.proofs.ByRecursion.{All-append}
+use Rattle.std.proofs.lemmas.Grind.{flat_map-append}
 use Rattle.std.proofs.lemmas.List.{take_at}
 use Rattle.std.specs.List.{flat_map, AllByRecursion}
 use Rattle.java.specs.declared.types.Primitive.{Primitive}
@@ -20,11 +21,6 @@ plain_fits = record { kind = omega arith; detail = omega arith; up = omega arith
 all_plain : (n : ℕ) → AllByRecursion NodeFits (replicate n plain)
 all_plain zero = tt
 all_plain (suc n) = (plain_fits, all_plain n)
-
-joined-append : {X : Type 0} (written : X → List ℕ) (xs ys : List X) → flat_map written (xs ++ ys) ≡ flat_map written xs ++ flat_map written ys
-joined-append written [] ys = refl
-joined-append written (x ∷ xs) ys =
-    ap (λ (t : List ℕ). written x ++ t) (joined-append written xs ys) ∙ sym (append_assoc (written x) (flat_map written xs) (flat_map written ys))
 
 -- one part more of the bytes
 pub longer : (bs : List ℕ) (o k : ℕ) {front more : List ℕ} → front ≡ take o bs → more ≡ part o k bs → front ++ more ≡ take (o + k) bs
@@ -53,7 +49,7 @@ module _ (bs : List ℕ) where
       let rest = flat_map type_bytes pad ++ (bytes_of 2 0 ++ (bytes_of 2 1 ++ flat_map node_bytes (plain ∷ []))) in
       let s : Script = record { locals = all; labels = 0; nodes = plain ∷ [] } in
       let cut : file s ≡ (bytes_of 2 locals ++ flat_map type_bytes types) ++ rest =
-      ap₂ (λ (n : ℕ) (t : List ℕ). bytes_of 2 n ++ (t ++ (bytes_of 2 0 ++ (bytes_of 2 1 ++ flat_map node_bytes (plain ∷ []))))) count (joined-append type_bytes types pad)
+      ap₂ (λ (n : ℕ) (t : List ℕ). bytes_of 2 n ++ (t ++ (bytes_of 2 0 ++ (bytes_of 2 1 ++ flat_map node_bytes (plain ∷ []))))) count (flat_map-append type_bytes types pad)
       ∙ ap (λ (t : List ℕ). bytes_of 2 locals ++ t) (append_assoc (flat_map type_bytes types) (flat_map type_bytes pad) (bytes_of 2 0 ++ (bytes_of 2 1 ++ flat_map node_bytes (plain ∷ []))))
       ∙ sym (append_assoc (bytes_of 2 locals) (flat_map type_bytes types) rest) in
       record {
@@ -112,7 +108,7 @@ module _ (bs : List ℕ) where
         let s = begun labels all in
         let cut : file s ≡ (count_front labels nodes ++ flat_map node_bytes right) ++ flat_map node_bytes pad =
         after_count labels all
-        ∙ ap₂ (λ (n : ℕ) (t : List ℕ). count_front labels n ++ t) count (joined-append node_bytes right pad)
+        ∙ ap₂ (λ (n : ℕ) (t : List ℕ). count_front labels n ++ t) count (flat_map-append node_bytes right pad)
         ∙ sym (append_assoc (count_front labels nodes) (flat_map node_bytes right) (flat_map node_bytes pad)) in
         record {
           script = s;

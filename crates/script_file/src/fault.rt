@@ -2,6 +2,7 @@
 ghost use Rattle.std.specs.Prelude.{◌≡◌, Some};
 ghost use Rattle.script_file.specs.Faults.{fault_number, fault_offset, fault_reason, fault_text};
 
+use std::error::Error;
 use std::fmt;
 
 // A fault of the file, with the byte offset at which the faulty part begins.
@@ -36,10 +37,10 @@ impl FileFault {
         ensures { result ≡ fault_offset self }
     {
         match self {
-            FileFault::Cut(at) => at,
-            FileFault::Count(at) => at,
-            FileFault::TypeCode(at) => at,
-            FileFault::Trailing(at) => at,
+            FileFault::Cut(at)
+            | FileFault::Count(at)
+            | FileFault::TypeCode(at)
+            | FileFault::Trailing(at) => at,
             FileFault::Room => 0,
         }
     }
@@ -68,3 +69,5 @@ impl fmt::Display for FileFault {
         write!(f, "refusal {number} at byte {offset}: {reason}")
     }
 }
+
+impl Error for FileFault {}

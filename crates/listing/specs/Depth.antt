@@ -1,10 +1,7 @@
 -- How deep a node stands, going by what the file says of its parents.
-use Rattle.std.specs.Prelude.{ℕ, zero, suc, cond, ◌&&◌, List, length, pos, nat_lt, slice_index_or}
+use Rattle.std.specs.Prelude.{ℕ, zero, suc, cond, ◌&&◌, List, length, nat_lt, slice_index_or}
 use Rattle.script.specs.declared.node.Node.{Node}
-
--- what stands past the end of a table
-abbrev pub blank : Node
-blank = record { kind = 0; detail = 0; up = record { 0 = 0 }; end = record { 0 = 0 }; number = pos 0 }
+use Rattle.script.specs.Tables.{blank}
 
 abbrev pub parent : List Node → ℕ → ℕ
 parent nodes p = (slice_index_or nodes p blank).up.0

@@ -9,22 +9,14 @@ use Rattle.script.specs.Kinds.{kind_code, kind_name, kind_of}
 
 -- a kind with the local, label or channel of this number, where it names one
 abbrev pub numbered : Kind → ℕ → List ℕ
-numbered Literal n = kind_name Literal
 numbered Local n = codes "local " ++ decimal n
-numbered Unary n = kind_name Unary
-numbered Binary n = kind_name Binary
-numbered Conditional n = kind_name Conditional
 numbered Assignment n = kind_name Assignment ++ (codes " to " ++ (codes "local " ++ decimal n))
 numbered Reading n = kind_name Reading ++ (codes " of " ++ (codes "channel " ++ decimal n))
-numbered Empty n = kind_name Empty
-numbered Expression n = kind_name Expression
 numbered Labelled n = kind_name Labelled ++ (codes " by " ++ (codes "label " ++ decimal n))
 numbered Break n = kind_name Break ++ (codes " to " ++ (codes "label " ++ decimal n))
 numbered Continue n = kind_name Continue ++ (codes " to " ++ (codes "label " ++ decimal n))
-numbered If n = kind_name If
-numbered While n = kind_name While
-numbered Block n = kind_name Block
 numbered Declaration n = kind_name Declaration ++ (codes " of " ++ (codes "local " ++ decimal n))
+numbered k n = kind_name k
 
 -- a literal with its type, if its detail is the code of one
 abbrev pub literal_of : Option Primitive → List ℕ

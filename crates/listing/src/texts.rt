@@ -5,13 +5,14 @@ ghost use Rattle.listing.specs.declared.texts.ListFault.TheVariants.{Memory, Ref
 
 use crate::lines::Listing;
 use java::Primitive;
-use script::{Node, Pos};
-use script_file::{FileFault, MOST_LOCALS, MOST_NODES, read};
+use script::{MOST_LOCALS, MOST_NODES, Node};
+use script_file::{FileFault, read};
 use std::alloc::{AllocError, Global};
+use std::error::Error;
 use std::fmt;
 
 // Why there is no listing.
-#[derive(Clone, Copy)]
+#[derive(Clone, Copy, Debug, PartialEq, Eq)]
 pub enum ListFault {
     // The bytes are no script file.
     Refused(FileFault),
@@ -30,6 +31,9 @@ impl fmt::Display for ListFault {
     }
 }
 
+impl Error for ListFault {}
+
+// Each error that `?` meets has its own variant, and so its own impl.
 impl From<FileFault> for ListFault {
     ghost from_gives = { λ fault r. r ≡ Refused fault };
 
@@ -50,23 +54,16 @@ impl From<AllocError> for ListFault {
 pub fn text_of(heap: Global, path: &str, bytes: &[u8]) -> Result<String, ListFault>
     ensures { Said path.now bytes.now result }
 {
+    // tables of the largest size, which `read` fills
     let mut types = [Primitive::Boolean; MOST_LOCALS];
-    let mut nodes = [Node {
-        kind: 0,
-        detail: 0,
-        up: Pos(0),
-        end: Pos(0),
-        number: 0,
-    }; MOST_NODES];
+    let mut nodes = [Node::BLANK; MOST_NODES];
     let sizes = read(bytes, &mut types, &mut nodes)?;
     let listing = Listing {
-        types: &types[0..sizes.locals as usize],
+        types: &types[..sizes.locals as usize],
         labels: sizes.labels,
-        nodes: &nodes[0..sizes.nodes as usize],
+        nodes: &nodes[..sizes.nodes as usize],
     };
-    let size = bytes.len();
     let mut text = format!(in heap; "{listing}")?;
-    let last = format!(in heap; "read {path} whole: {size} bytes\n")?;
-    text.push_str(last.as_str())?;
+    writeln!(text, "read {path} whole: {} bytes", bytes.len())?;
     Ok(text)
 }

@@ -2,18 +2,19 @@
 ghost use Rattle.std.specs.Prelude.{Some};
 ghost use Rattle.observe.specs.Words.{Meant, misuse_text};
 
+use std::error::Error;
 use std::fmt;
 
 pub const USAGE: &str = "usage: observe show FILE";
 
-#[derive(Clone, Copy)]
+#[derive(Clone, Copy, Debug, PartialEq, Eq)]
 pub enum Command<'a> {
     // List the script of a file.
     Show(&'a str),
 }
 
 // Words that ask for nothing.
-#[derive(Clone, Copy)]
+#[derive(Clone, Copy, Debug, PartialEq, Eq)]
 pub enum Misuse<'a> {
     NoWord,
     Unknown(&'a str),
@@ -24,22 +25,16 @@ pub enum Misuse<'a> {
 pub fn understand(words: &[String]) -> Result<Command<'_>, Misuse<'_>>
     ensures { Meant words.now result }
 {
-    let Some(word) = words.get(0) else {
-        return Err(Misuse::NoWord);
-    };
-    if word.as_str() != "show" {
-        return Err(Misuse::Unknown(word.as_str()));
+    match words {
+        [] => Err(Misuse::NoWord),
+        [word, ..] if word.as_str() != "show" => Err(Misuse::Unknown(word.as_str())),
+        [_] => Err(Misuse::NoFile),
+        [_, file] => Ok(Command::Show(file.as_str())),
+        _ => Err(Misuse::TooMany),
     }
-    let Some(file) = words.get(1) else {
-        return Err(Misuse::NoFile);
-    };
-    if words.len() > 2 {
-        return Err(Misuse::TooMany);
-    }
-    Ok(Command::Show(file.as_str()))
 }
 
-impl<'a> fmt::Display for Misuse<'a> {
+impl fmt::Display for Misuse<'_> {
     ghost output = { λ m. Some (misuse_text m) };
 
     fn fmt<W: fmt::Write>(&self, f: &mut fmt::Formatter<W>) -> fmt::Result {
@@ -51,3 +46,5 @@ impl<'a> fmt::Display for Misuse<'a> {
         }
     }
 }
+
+impl Error for Misuse<'_> {}

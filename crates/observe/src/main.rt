@@ -2,49 +2,37 @@
 #![tactic(auto)]
 
 mod command;
+mod failure;
 mod show;
 #[cfg(test)]
 mod tests;
 
-use crate::command::{Command, USAGE, understand};
+use crate::command::{Command, understand};
+use crate::failure::Failure;
 use crate::show::show;
 use std::process::ExitCode;
 use std::{env, io};
 
 fn words_of(rt: &HostRuntime) -> io::Result<Vec<String>> {
-    let words = env::args(rt)?.skip(1).collect::<Vec<String>>(rt.alloc())?;
-    Ok(words)
+    Ok(env::args(rt)?.skip(1).collect(rt.alloc())?)
 }
 
-// Does what the words ask for; what goes wrong is said on standard error, and the answer is then false.
-fn run(rt: &HostRuntime) -> io::Result<bool> {
-    let words = match words_of(rt) {
-        Ok(words) => words,
-        Err(error) => {
-            eprintln!(rt; "observe: the words cannot be read: {error}\n{USAGE}")?;
-            return Ok(false);
-        }
-    };
-    match understand(words.as_slice()) {
-        Ok(Command::Show(path)) => match show(rt, path) {
-            Ok(()) => Ok(true),
-            Err(fault) => {
-                eprintln!(rt; "observe: {path}: {fault}")?;
-                Ok(false)
-            }
-        },
-        Err(misuse) => {
-            eprintln!(rt; "observe: {misuse}\n{USAGE}")?;
-            Ok(false)
-        }
-    }
+// Does what the words ask for.
+fn run<'a>(rt: &HostRuntime, words: &'a io::Result<Vec<String>>) -> Result<(), Failure<'a>> {
+    let words = words.as_ref().map_err(Failure::Unreadable)?;
+    let Command::Show(path) = understand(words.as_slice())?;
+    show(rt, path).map_err(|fault| Failure::NotShown(path, fault))
 }
 
-// What went wrong has been said, so the status alone tells it: an error from here would be printed too.
+// What went wrong is said here and nowhere else, and the status tells it too: an `Err` from here would be printed in
+// other words.
 fn main(rt: HostRuntime) -> io::Result<ExitCode> {
-    if run(&rt)? {
-        Ok(ExitCode::SUCCESS)
-    } else {
-        Ok(ExitCode::FAILURE)
+    let words = words_of(&rt);
+    match run(&rt, &words) {
+        Ok(()) => Ok(ExitCode::SUCCESS),
+        Err(failure) => {
+            eprintln!(rt; "observe: {failure}")?;
+            Ok(ExitCode::FAILURE)
+        }
     }
 }

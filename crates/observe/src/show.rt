@@ -5,12 +5,13 @@ ghost use Rattle.observe.specs.declared.show.ShowFault.TheVariants.{Unlisted};
 use crate::command::USAGE;
 use listing::{ListFault, text_of};
 use script_file::deciding_bytes;
+use std::error::Error;
 use std::fs::File;
 use std::io::Read;
 use std::{fmt, io};
 
 // Why nothing was shown.
-#[derive(Drop)]
+#[derive(Debug, Drop)]
 pub enum ShowFault {
     // The file is missing or cannot be read.
     Unreadable(io::Error),
@@ -30,6 +31,8 @@ impl fmt::Display for ShowFault {
     }
 }
 
+impl Error for ShowFault {}
+
 impl From<ListFault> for ShowFault {
     ghost from_gives = { λ fault r. r ≡ Unlisted fault };
 
@@ -47,13 +50,7 @@ fn first_bytes(rt: &HostRuntime, path: &str) -> io::Result<Vec<u8>> {
 }
 
 pub fn show(rt: &HostRuntime, path: &str) -> Result<(), ShowFault> {
-    let bytes = match first_bytes(rt, path) {
-        Ok(bytes) => bytes,
-        Err(error) => return Err(ShowFault::Unreadable(error)),
-    };
+    let bytes = first_bytes(rt, path).map_err(ShowFault::Unreadable)?;
     let text = text_of(rt.alloc(), path, bytes.as_slice())?;
-    match print!(rt; "{text}") {
-        Ok(()) => Ok(()),
-        Err(error) => Err(ShowFault::Unwritten(error)),
-    }
+    print!(rt; "{text}").map_err(ShowFault::Unwritten)
 }

@@ -1,8 +1,9 @@
 // The files that the tests read.
 use java::Primitive;
-use script::{Node, Pos};
-use script_file::{MOST_LOCALS, MOST_NODES};
+use script::{MOST_LOCALS, MOST_NODES, Node, Pos};
+use script_file::{FileFault, Sizes};
 use std::alloc::{AllocError, Global};
+use std::iter;
 
 // `{ int f; f = 1; }`: one local, an int; no label; five nodes, a line for each.
 pub const ONE_FIELD: &[u8; 77] = b"\x01\0\x04\0\0\x05\0\
@@ -27,10 +28,17 @@ pub struct Tables {
     pub nodes: [Node; MOST_NODES],
 }
 
-pub(crate) fn spare_tables() -> Tables {
-    Tables {
-        types: [Primitive::Char; MOST_LOCALS],
-        nodes: [SPARE; MOST_NODES],
+impl Tables {
+    pub fn spare() -> Tables {
+        Tables {
+            types: [Primitive::Char; MOST_LOCALS],
+            nodes: [SPARE; MOST_NODES],
+        }
+    }
+
+    // Reads a file into the whole of them.
+    pub fn read(&mut self, bytes: &[u8]) -> Result<Sizes, FileFault> {
+        script_file::read(bytes, &mut self.types, &mut self.nodes)
     }
 }
 
@@ -47,30 +55,25 @@ pub(crate) fn node(kind: u8, detail: u8, up: u16, end: u16, number: i64) -> Node
 // ONE_FIELD with another byte at an offset.
 pub(crate) fn damaged(at: usize, byte: u8) -> [u8; 77] {
     let mut bytes = *ONE_FIELD;
-    if at < bytes.len() {
-        bytes[at] = byte;
+    if let Some(there) = bytes.get_mut(at) {
+        *there = byte;
     }
     bytes
 }
 
-// A file with these counts of locals, labels and nodes, and with so many type codes and nodes.
-pub(crate) fn filled(
-    heap: Global,
-    locals: u16,
-    labels: u16,
-    nodes: u16,
-) -> Result<Vec<u8>, AllocError> {
+// A file with these counts, and with so many type codes and nodes.
+pub(crate) fn filled(heap: Global, sizes: Sizes) -> Result<Vec<u8>, AllocError> {
     let mut bytes = Vec::new(heap);
-    bytes.extend_from_slice(&locals.to_le_bytes())?;
-    for _ in 0..locals {
-        bytes.push(5)?;
-    }
-    bytes.extend_from_slice(&labels.to_le_bytes())?;
-    bytes.extend_from_slice(&nodes.to_le_bytes())?;
-    for i in 0..nodes {
-        bytes.extend_from_slice(&[8, 0])?;
-        bytes.extend_from_slice(&i.to_le_bytes())?;
-        bytes.extend_from_slice(&[0, 1, 255, 255, 255, 255, 255, 255, 255, 255])?;
+    bytes.extend_from_slice(&sizes.locals.to_le_bytes())?;
+    bytes.extend(iter::repeat_n(5, sizes.locals as usize))?;
+    bytes.extend_from_slice(&sizes.labels.to_le_bytes())?;
+    bytes.extend_from_slice(&sizes.nodes.to_le_bytes())?;
+    // each with its own place for its parent's
+    for place in 0..sizes.nodes {
+        let [low, high] = place.to_le_bytes();
+        bytes.extend_from_slice(&[
+            8, 0, low, high, 0, 1, 255, 255, 255, 255, 255, 255, 255, 255,
+        ])?;
     }
     Ok(bytes)
 }

@@ -1,12 +1,31 @@
 // Values and operators by example: which codes there are, how operators are typed, which numbers a type has. What the
 // operators give is shown by the program `conformance`, on Java's own answers.
-use java::{Binary, Primitive, Unary, Value};
+use java::{Binary, Numeric, Primitive, Unary, Value};
+use std::ops::RangeInclusive;
 use std::test::Fail;
 
-// The type of a result, by letter: b boolean, i int, l long, and others by their first; none is a dash. The operand's
-// types go by code: boolean, byte, short, char, int, long.
-fn letter(res: Option<Primitive>) -> u8 {
-    match res {
+// In the order of their codes.
+const TYPES: [Primitive; 6] = [
+    Primitive::Boolean,
+    Primitive::Byte,
+    Primitive::Short,
+    Primitive::Char,
+    Primitive::Int,
+    Primitive::Long,
+];
+
+#[test]
+fn types_go_by_their_codes(rt: HostRuntime) {
+    for code in 0..=255u8 {
+        let expected = TYPES.get(usize::from(code)).copied();
+        assert_eq!(rt; Primitive::try_from(code).ok(), expected);
+    }
+}
+
+// The type of a result, by letter, so that a rule is a table of six rows: b boolean, y byte, s short, c char, i int, l long;
+// none is a dash.
+fn letter(of_type: Option<Primitive>) -> u8 {
+    match of_type {
         Some(Primitive::Boolean) => b'b',
         Some(Primitive::Byte) => b'y',
         Some(Primitive::Short) => b's',
@@ -17,20 +36,9 @@ fn letter(res: Option<Primitive>) -> u8 {
     }
 }
 
-fn pair_letter(operator: Binary, left: u8, right: u8) -> u8 {
-    match (Primitive::from_code(left), Primitive::from_code(right)) {
-        (Some(left), Some(right)) => letter(operator.result_type(left, right)),
-        _ => b'?',
-    }
-}
-
-// The results for every pair of types, the right one fastest.
-fn pair_letters(operator: Binary) -> [u8; 36] {
-    let mut letters = [0; 36];
-    for at in 0..36 {
-        letters[at] = pair_letter(operator, (at / 6) as u8, (at % 6) as u8);
-    }
-    letters
+// The results of a binary operator: a row for each type on the left, in it a letter for each type on the right.
+fn binary_letters(operator: Binary) -> [[u8; 6]; 6] {
+    TYPES.map(|left| TYPES.map(|right| letter(operator.result_type(left, right))))
 }
 
 // * / % + −
@@ -73,60 +81,52 @@ const BITWISE: &[u8; 36] = b"b-----\
     -iiiil\
     -lllll";
 
-fn pair_rule(code: u8) -> &'static [u8; 36] {
-    match code {
-        0..=4 => ARITHMETIC,
-        5..=7 => SHIFT,
-        8..=11 => COMPARISON,
-        12..=13 => EQUALITY,
-        _ => BITWISE,
+// The codes of the operators that are typed as this one is, and their results.
+fn binary_rule(operator: Binary) -> (RangeInclusive<u8>, &'static [u8; 36]) {
+    match operator {
+        Binary::Arithmetic(_) => (0..=4, ARITHMETIC),
+        Binary::Shift(_) => (5..=7, SHIFT),
+        Binary::Comparison(_) => (8..=11, COMPARISON),
+        Binary::Equality(_) => (12..=13, EQUALITY),
+        Binary::Bitwise(_) => (14..=16, BITWISE),
     }
 }
 
 #[test]
 fn binary_operators_are_typed_by_their_rules(rt: HostRuntime) -> Result<(), Fail> {
     for code in 0..17 {
-        match Binary::from_code(code) {
-            Some(operator) => assert_eq!(rt; &pair_letters(operator)[..], &pair_rule(code)[..]),
-            None => return Err(Fail::new("a code names no operator")),
-        }
+        let operator = Binary::try_from(code)?;
+        let (codes, letters) = binary_rule(operator);
+        assert!(rt; codes.contains(&code), "{}", code);
+        assert_eq!(rt; binary_letters(operator).as_flattened(), &letters[..]);
     }
     Ok(())
 }
 
-fn operand_letter(operator: Unary, operand: u8) -> u8 {
-    match Primitive::from_code(operand) {
-        Some(operand) => letter(operator.result_type(operand)),
-        None => b'?',
-    }
+// The results of a unary operator: a letter for each type of the operand.
+fn unary_letters(operator: Unary) -> [u8; 6] {
+    TYPES.map(|operand| letter(operator.result_type(operand)))
 }
 
-fn operand_letters(operator: Unary) -> [u8; 6] {
-    let mut letters = [0; 6];
-    for at in 0..6 {
-        letters[at] = operand_letter(operator, at as u8);
-    }
-    letters
-}
-
-fn operand_rule(code: u8) -> &'static [u8; 6] {
-    match code {
-        0..=2 => b"-iiiil",
-        3 => b"b-----",
-        17 => b"-yyyyy",
-        18 => b"-sssss",
-        19 => b"-ccccc",
-        20 => b"-iiiii",
-        21 => b"-lllll",
-        _ => b"??????",
+fn unary_rule(operator: Unary) -> (RangeInclusive<u8>, &'static [u8; 6]) {
+    match operator {
+        Unary::Plus | Unary::Minus | Unary::Complement => (0..=2, b"-iiiil"),
+        Unary::Not => (3..=3, b"b-----"),
+        Unary::Cast(Numeric::Byte) => (17..=17, b"-yyyyy"),
+        Unary::Cast(Numeric::Short) => (18..=18, b"-sssss"),
+        Unary::Cast(Numeric::Char) => (19..=19, b"-ccccc"),
+        Unary::Cast(Numeric::Int) => (20..=20, b"-iiiii"),
+        Unary::Cast(Numeric::Long) => (21..=21, b"-lllll"),
     }
 }
 
 #[test]
 fn unary_operators_are_typed_by_their_rules(rt: HostRuntime) {
     for code in 0..22 {
-        if let Some(operator) = Unary::from_code(code) {
-            assert_eq!(rt; &operand_letters(operator)[..], &operand_rule(code)[..]);
+        if let Ok(operator) = Unary::try_from(code) {
+            let (codes, letters) = unary_rule(operator);
+            assert!(rt; codes.contains(&code), "{}", code);
+            assert_eq!(rt; &unary_letters(operator), letters);
         }
     }
 }
@@ -135,19 +135,16 @@ fn unary_operators_are_typed_by_their_rules(rt: HostRuntime) {
 fn other_codes_name_no_operator(rt: HostRuntime) {
     for code in 0..=255 {
         assert_eq!(rt;
-            Unary::from_code(code).is_some(),
-            code <= 3 || (17 <= code && code <= 21)
+            Unary::try_from(code).is_ok(),
+            matches!(code, 0..=3 | 17..=21)
         );
-        assert_eq!(rt; Binary::from_code(code).is_some(), code <= 16);
+        assert_eq!(rt; Binary::try_from(code).is_ok(), code <= 16);
     }
 }
 
 // Whether a type has this number, and a value with it has that type and that number.
 fn has(of: Primitive, number: i64) -> bool {
-    match Value::new(of, number) {
-        Some(value) => value.primitive() == of && value.number() == number,
-        None => false,
-    }
+    Value::new(of, number).is_some_and(|value| value.primitive() == of && value.number() == number)
 }
 
 #[test]

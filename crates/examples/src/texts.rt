@@ -19,13 +19,9 @@ read one whole: 77 bytes
 
 #[test]
 fn a_script_is_listed(rt: HostRuntime) -> Result<(), Fail> {
-    match text_of(rt.alloc(), "one", ONE_FIELD) {
-        Ok(text) => {
-            assert_eq!(rt; text.as_str(), ONE_FIELD_TEXT);
-            Ok(())
-        },
-        Err(_) => Err(Fail::new("refused")),
-    }
+    let text = text_of(rt.alloc(), "one", ONE_FIELD)?;
+    assert_eq!(rt; text.as_str(), ONE_FIELD_TEXT);
+    Ok(())
 }
 
 // Two nodes that make no tree: an unknown kind whose parent is past the table, and a literal of no type with a long number.
@@ -44,22 +40,15 @@ read odd whole: 34 bytes
 
 #[test]
 fn any_nodes_are_listed(rt: HostRuntime) -> Result<(), Fail> {
-    match text_of(rt.alloc(), "odd", ODD) {
-        Ok(text) => {
-            assert_eq!(rt; text.as_str(), ODD_TEXT);
-            Ok(())
-        },
-        Err(_) => Err(Fail::new("refused")),
-    }
+    let text = text_of(rt.alloc(), "odd", ODD)?;
+    assert_eq!(rt; text.as_str(), ODD_TEXT);
+    Ok(())
 }
 
 #[test]
-fn a_refusal_is_handed_on(rt: HostRuntime) -> Result<(), Fail> {
-    let odd = *ODD;
-    match text_of(rt.alloc(), "cut", &odd[0..33]) {
-        Err(ListFault::Refused(FileFault::Cut(20))) => Ok(()),
-        _ => Err(Fail::new("not refused by 1 at byte 20")),
-    }
+fn a_refusal_is_handed_on(rt: HostRuntime) {
+    let answer = text_of(rt.alloc(), "cut", &ODD[..33]);
+    assert_eq!(rt; answer.err(), Some(ListFault::Refused(FileFault::Cut(20))));
 }
 
 const KINDS_TEXT: &str = "locals: 0
@@ -92,13 +81,9 @@ fn every_kind_has_its_words(rt: HostRuntime) -> Result<(), Fail> {
     for kind in 0..17u8 {
         bytes.extend_from_slice(&[kind, 5, 0, 0, 0, 0, 3, 0, 0, 0, 0, 0, 0, 0])?;
     }
-    match text_of(rt.alloc(), "kinds", bytes.as_slice()) {
-        Ok(text) => {
-            assert_eq!(rt; text.as_str(), KINDS_TEXT);
-            Ok(())
-        },
-        Err(_) => Err(Fail::new("refused")),
-    }
+    let text = text_of(rt.alloc(), "kinds", bytes.as_slice())?;
+    assert_eq!(rt; text.as_str(), KINDS_TEXT);
+    Ok(())
 }
 
 // A local whose number is no number of a local.
@@ -115,11 +100,7 @@ read far whole: 20 bytes
 
 #[test]
 fn a_number_out_of_range_is_not_named(rt: HostRuntime) -> Result<(), Fail> {
-    match text_of(rt.alloc(), "far", FAR) {
-        Ok(text) => {
-            assert_eq!(rt; text.as_str(), FAR_TEXT);
-            Ok(())
-        },
-        Err(_) => Err(Fail::new("refused")),
-    }
+    let text = text_of(rt.alloc(), "far", FAR)?;
+    assert_eq!(rt; text.as_str(), FAR_TEXT);
+    Ok(())
 }

@@ -1,8 +1,8 @@
 // The cases: the worked examples of Java's specification, further ones of rounding, wrapping and shift counts, and each
 // type at its least and its greatest number.
-use crate::lines::{BinaryCase, UnaryCase};
+use crate::lines::Case;
 use java::{Arithmetic, Binary, Bitwise, Comparison, Equality, Numeric, Shift, Unary, Value};
-use std::io;
+use std::{fmt, io};
 
 const UNARY: [Unary; 8] = [
     Unary::Plus,
@@ -266,56 +266,44 @@ const BOOLEAN_OPERANDS: [(Value, Value); 4] = [
     (Value::Boolean(true), Value::Boolean(true)),
 ];
 
-fn print_unary(rt: &HostRuntime, operand: Value) -> io::Result<()> {
-    for operator in UNARY {
-        println!(rt; "{}", UnaryCase { operator, operand })?;
-    }
-    Ok(())
-}
+const BOOLEANS: [Value; 2] = [Value::Boolean(false), Value::Boolean(true)];
 
-fn print_pair(rt: &HostRuntime, operators: &[Binary], left: Value, right: Value) -> io::Result<()> {
+// Which binary operators are shown on which pairs, in the order of the lines.
+const BINARY_CASES: [(&[Binary], &[(Value, Value)]); 7] = [
+    (&ARITHMETIC, &ARITHMETIC_OPERANDS),
+    (&SHIFTS, &SHIFT_OPERANDS),
+    (&COMPARISONS, &COMPARISON_OPERANDS),
+    (&EQUALITIES, &EQUALITY_OPERANDS),
+    (&EQUALITIES, &BOOLEAN_OPERANDS),
+    (&BITWISE, &BITWISE_OPERANDS),
+    (&BITWISE, &BOOLEAN_OPERANDS),
+];
+
+fn print_each<O: Copy, A: Copy>(rt: &HostRuntime, operators: &[O], operands: A) -> io::Result<()>
+where
+    Case<O, A>: fmt::Display,
+{
     for &operator in operators {
-        let case = BinaryCase {
-            operator,
-            left,
-            right,
-        };
-        println!(rt; "{case}")?;
+        println!(rt; "{}", Case { operator, operands })?;
     }
     Ok(())
 }
 
-fn print_pairs(rt: &HostRuntime, operators: &[Binary], pairs: &[(Value, Value)]) -> io::Result<()> {
-    for &(left, right) in pairs {
-        print_pair(rt, operators, left, right)?;
-    }
-    Ok(())
-}
-
-fn print_unary_cases(rt: &HostRuntime) -> io::Result<()> {
-    for operand in UNARY_OPERANDS {
-        print_unary(rt, operand)?;
-    }
-    Ok(())
-}
-
-fn print_not(rt: &HostRuntime) -> io::Result<()> {
-    for b in [false, true] {
-        let operand = Value::Boolean(b);
-        let operator = Unary::Not;
-        println!(rt; "{}", UnaryCase { operator, operand })?;
+// A line for each operator on each of the operands, the operators fastest.
+fn print_all<O: Copy, A: Copy>(rt: &HostRuntime, operators: &[O], all: &[A]) -> io::Result<()>
+where
+    Case<O, A>: fmt::Display,
+{
+    for &operands in all {
+        print_each(rt, operators, operands)?;
     }
     Ok(())
 }
 
 pub(crate) fn print_cases(rt: &HostRuntime) -> io::Result<()> {
-    print_unary_cases(rt)?;
-    print_pairs(rt, &ARITHMETIC, &ARITHMETIC_OPERANDS)?;
-    print_pairs(rt, &SHIFTS, &SHIFT_OPERANDS)?;
-    print_pairs(rt, &COMPARISONS, &COMPARISON_OPERANDS)?;
-    print_pairs(rt, &EQUALITIES, &EQUALITY_OPERANDS)?;
-    print_pairs(rt, &EQUALITIES, &BOOLEAN_OPERANDS)?;
-    print_pairs(rt, &BITWISE, &BITWISE_OPERANDS)?;
-    print_pairs(rt, &BITWISE, &BOOLEAN_OPERANDS)?;
-    print_not(rt)
+    print_all(rt, &UNARY, &UNARY_OPERANDS)?;
+    for (operators, pairs) in BINARY_CASES {
+        print_all(rt, operators, pairs)?;
+    }
+    print_all(rt, &[Unary::Not], &BOOLEANS)
 }

@@ -29,7 +29,7 @@ pub struct Tables {
 }
 
 impl Tables {
-    pub fn spare() -> Tables {
+    pub(crate) fn spare() -> Tables {
         Tables {
             types: [Primitive::Char; MOST_LOCALS],
             nodes: [SPARE; MOST_NODES],
@@ -37,7 +37,7 @@ impl Tables {
     }
 
     // Reads a file into the whole of them.
-    pub fn read(&mut self, bytes: &[u8]) -> Result<Sizes, FileFault> {
+    pub(crate) fn read(&mut self, bytes: &[u8]) -> Result<Sizes, FileFault> {
         script_file::read(bytes, &mut self.types, &mut self.nodes)
     }
 }

@@ -1,18 +1,15 @@
 -- Membership in a set of locals, local by local.
-use Rattle.std.proofs.Common.{◌≡◌, ℕ, zero, suc, ◌-◌, ◌*◌, ◌^◌, ◌<◌, ◌≤◌, true, false, cond, not, ◌&&◌, ◌||◌, eqb, nat_lt, bit_and, bit_or, min, max, w64, refl, ap, ◌∙◌, ⊎_elim, arith, mod-eq_of_lt}
+use Rattle.std.proofs.Common.{◌≡◌, ℕ, zero, suc, ◌-◌, ◌*◌, ◌^◌, ◌<◌, ◌≤◌, false, cond, not, ◌&&◌, ◌||◌, eqb, nat_lt, bit_and, bit_or, min, max, w64, refl, ap, ◌∙◌, ⊎_elim, arith, mod-eq_of_lt}
 use Rattle.std.proofs.lemmas.Bool.{cases_lt, le-ltb, lt-ltb, ne_eqb}
 use Rattle.std.proofs.lemmas.Grind.{common_steps}
 use Rattle.std.proofs.lemmas.Nat.{and_mask, pow_below, pow_pos}
-use Rattle.std.proofs.lemmas.Nat.Bits.{and_pow, bit_at-lt, bit_at-pow_other, bit_at-pow_same, bit_at_above, bit_at_and, bit_at_not, bit_at_ones, bit_at_or}
+use Rattle.std.proofs.lemmas.Nat.Bits.{and_pow, bit_at-lt, bit_at-pow_other, bit_at-pow_same, bit_at_above, bit_at_and, bit_at_not, bit_at_or}
 use Rattle.std.specs.Int.{bit_at}
 use Rattle.std.specs.Int.Bits.{and_zero_r, or_zero_r}
 use Rattle.semantics.specs.declared.sets.LocalSet.{LocalSet}
-use Rattle.semantics.specs.Sets.{full, has, shared, with, without}
+use Rattle.semantics.specs.Sets.{has, shared, with, without}
 
--- what two bits have in common, what one of them has, and what the first has and the second has not
-of_both : (p q : ℕ) → p < 2 → q < 2 → eqb (min p q) 1 ≡ (eqb p 1 && eqb q 1)
-of_both p q h k = grind (arith, common_steps)
-
+-- what one of two bits has, and what the first has and the second has not
 of_either : (p q : ℕ) → p < 2 → q < 2 → eqb (max p q) 1 ≡ (eqb q 1 || eqb p 1)
 of_either p q h k = grind (arith, common_steps)
 
@@ -25,7 +22,10 @@ pow_bit k x = grind (arith, common_steps, bit_at-pow_same, bit_at-pow_other)
 
 pub has_shared : (x : ℕ) (a b : LocalSet) → has x (shared a b) ≡ (has x a && has x b)
 unfolding has shared
-has_shared x a b = ap (λ n. eqb n 1) (bit_at_and a.0 b.0 x) ∙ of_both _ _ (bit_at-lt a.0 x) (bit_at-lt b.0 x)
+has_shared x a b =
+    let left = bit_at-lt a.0 x in
+    let right = bit_at-lt b.0 x in
+    ap (λ n. eqb n 1) (bit_at_and a.0 b.0 x) ∙ grind (arith, common_steps)
 
 -- the bits of one local more, and without one
 pub has_with : (x y : ℕ) (m : LocalSet) → y < 64 → has x (with y m) ≡ (eqb x y || has x m)

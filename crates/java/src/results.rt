@@ -1,16 +1,14 @@
 // What the operators give on values. A number is computed in 64 bits, of which the result's type keeps the low ones.
-ghost use Rattle.std.specs.Prelude.{◌≡◌, ◌-◌, ◌/◌, ◌^◌, ◌<◌, Bool, ℤ, pos, if◌then◌else◌, Some, None, Option};
+ghost use Rattle.std.specs.Prelude.{◌≡◌, ◌-◌, ◌/◌, ◌^◌, ◌<◌, pos, if◌then◌else◌, Some, None};
 ghost use Rattle.std.specs.Int.{int_wrap, w64};
-ghost use Rattle.std.specs.Option.{ok_or, option_map};
-ghost use Rattle.java.specs.declared.results.NoValue.TheVariants.{Untyped};
-ghost use Rattle.java.specs.declared.values.Value.TheVariants as V;
+ghost use Rattle.std.specs.Option.{option_map};
 ghost use Rattle.java.specs.Typing.{promoted, promoted_pair};
 ghost use Rattle.java.specs.Values.{residue, width, value_of, value_type};
 ghost use Rattle.java.specs.Results.{unary_value, arithmetic, zero_divisor, arithmetic_value, distance_bits, distance, shifted, shift_value, compared, equal, bitwise, logical, bitwise_value, binary_value, no_value_text};
 ghost use Rattle.java.specs.Laws.{UnaryLawful, BinaryLawful};
 
 use crate::operators::{Arithmetic, Binary, Bitwise, Comparison, Equality, Shift, Unary};
-use crate::types::{Numeric, Primitive};
+use crate::types::Numeric;
 use crate::typing::{comparison_type, equality_type};
 use crate::values::Value;
 use std::error::Error;
@@ -85,25 +83,15 @@ impl Binary {
         match self {
             Binary::Arithmetic(operator) => operator.apply(left, right),
             Binary::Shift(operator) => operator.apply(left, right),
-            Binary::Comparison(operator) => truth(
-                comparison_type(left.primitive(), right.primitive()),
-                operator.holds(left.number(), right.number()),
-            ),
-            Binary::Equality(operator) => truth(
-                equality_type(left.primitive(), right.primitive()),
-                operator.holds(left.number(), right.number()),
-            ),
+            Binary::Comparison(operator) => comparison_type(left.primitive(), right.primitive())
+                .map(|_| Value::Boolean(operator.holds(left.number(), right.number())))
+                .ok_or(NoValue::Untyped),
+            Binary::Equality(operator) => equality_type(left.primitive(), right.primitive())
+                .map(|_| Value::Boolean(operator.holds(left.number(), right.number())))
+                .ok_or(NoValue::Untyped),
             Binary::Bitwise(operator) => operator.apply(left, right),
         }
     }
-}
-
-// Whether something holds of two operands, where a rule types that.
-fn truth(typed: Option<Primitive>, holds: bool) -> Result<Value, NoValue>
-    ensures { result ≡ ok_or (option_map (λ _. V.Boolean holds) typed) Untyped }
-{
-    typed.ok_or(NoValue::Untyped)?;
-    Ok(Value::Boolean(holds))
 }
 
 // The type to which both operands are promoted.

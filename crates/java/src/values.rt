@@ -51,9 +51,10 @@ impl Value {
         ensures exact { Constructed of number result }
     {
         let numbers = of.least()..=of.greatest();
-        numbers
-            .contains(&number)
-            .then_some(Value::with_number(of, number))
+        if !numbers.contains(&number) {
+            return None;
+        }
+        Some(Value::with_number(of, number))
     }
 
     // The value with a number of the type.

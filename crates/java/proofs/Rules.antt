@@ -1,42 +1,46 @@
 -- The functions that type an operator's result and the rules say the same.
-use Rattle.std.proofs.Common.{◌≡◌, Bool, true, false, cond, ◌&&◌, [], ◌∷◌, Some, None, Option, sym, refl, ap, ◌∙◌, inl, inr, arith}
-use Rattle.std.specs.Option.{option_map}
-use Rattle.std.proofs.lemmas.Option.{same_Some, cond_some}
+use Rattle.std.proofs.Common.{◌≡◌, Bool, true, false, cond, ◌&&◌, [], ◌∷◌, Some, None, Option, sym, refl, ap, subst, ◌∙◌, inl, inr, arith}
+use Rattle.std.specs.Option.{option_map, option_zip}
+use Rattle.std.proofs.lemmas.Option.{none-some, same_Some, cond_some}
 use Rattle.std.proofs.lemmas.Bool.{and_parts, or_cases, or_left, or_right}
 use Rattle.java.specs.declared.types.Primitive.{Primitive}
-use Rattle.java.specs.declared.types.Primitive.TheVariants.{Boolean, Int}
+use Rattle.java.specs.declared.types.Primitive.TheVariants.{Boolean}
 use Rattle.java.specs.declared.types.Numeric.{Numeric}
 use Rattle.java.specs.declared.operators.Unary.{Unary}
 use Rattle.java.specs.declared.operators.Unary.TheVariants as U
 use Rattle.java.specs.declared.operators.Binary.{Binary}
 use Rattle.java.specs.declared.operators.Binary.TheVariants as B
-use Rattle.java.specs.Types.{primitive}
+use Rattle.java.specs.Types.{primitive, numeric, widest}
 use Rattle.java.specs.Subtypes.{LeastAbove, same_type, subtype}
 use Rattle.java.specs.Typing.{IsNumeric, UnaryRule, plus, minus, complement, logical_complement, cast, BinaryRule, arithmetic, shift, comparison, equal_to_wider, equal_to_narrower, bit_by_bit, logical, promoted, promoted_pair, promoted_shift, cast_type, comparison_type, unary_type, binary_type}
-use Rattle.java.proofs.Subtypes.{above_itself, one_type, tested, found, least_unique}
+use Rattle.java.proofs.Subtypes.{one_type, tested, found, least_above, least_unique}
+
+-- a numeric type is that of a number
+numbered : (a : Primitive) (n : Numeric) → numeric a ≡ Some n → IsNumeric a × (primitive n ≡ a)
+numbered a n e = grind arith
 
 -- what a promotion gives is the least type above its operands
-one_above : (a t : Primitive) → option_map primitive (promoted a) ≡ Some t → IsNumeric a × (subtype Int t ≡ true) × (subtype a t ≡ true)
-one_above a t e = grind (arith, above_itself)
-
-one_below : (a t u : Primitive) → option_map primitive (promoted a) ≡ Some t → subtype Int u ≡ true → subtype a u ≡ true → subtype t u ≡ true
-one_below a t u e i p = grind arith
-
 one_holds : (a t : Primitive) → option_map primitive (promoted a) ≡ Some t → IsNumeric a × LeastAbove (a ∷ []) t
-one_holds a t e =
-    let above = one_above a t e in
-    (above.0, ((found Int t above.1, (found a t above.2, tt)), λ u h. found t u (one_below a t u e (tested h.0) (tested h.1.0))))
-
-pair_above : (a b t : Primitive) → option_map primitive (promoted_pair a b) ≡ Some t → IsNumeric a × IsNumeric b × (subtype Int t ≡ true) × (subtype a t ≡ true) × (subtype b t ≡ true)
-pair_above a b t e = grind (arith, above_itself)
-
-pair_below : (a b t u : Primitive) → option_map primitive (promoted_pair a b) ≡ Some t → subtype Int u ≡ true → subtype a u ≡ true → subtype b u ≡ true → subtype t u ≡ true
-pair_below a b t u e i p q = grind arith
+one_holds a t e = by (numeric a) refl e
+  where
+    by : (x : Option Numeric) → numeric a ≡ x → option_map primitive (option_map (λ m. widest (m ∷ [])) x) ≡ Some t → IsNumeric a × LeastAbove (a ∷ []) t
+    by None k f = absurd (none-some _ f)
+    by (Some n) k f =
+        let p = numbered a n k in
+        let least = subst (LeastAbove (primitive n ∷ [])) (same_Some _ _ f) (least_above (n ∷ [])) in
+        (p.0, subst (λ (b : Primitive). LeastAbove (b ∷ []) t) p.1 least)
 
 pair_holds : (a b t : Primitive) → option_map primitive (promoted_pair a b) ≡ Some t → IsNumeric a × IsNumeric b × LeastAbove (a ∷ b ∷ []) t
-pair_holds a b t e =
-    let above = pair_above a b t e in
-    (above.0, above.1, ((found Int t above.2, (found a t above.3, (found b t above.4, tt))), λ u h. found t u (pair_below a b t u e (tested h.0) (tested h.1.0) (tested h.1.1.0))))
+pair_holds a b t e = by (numeric a) (numeric b) refl refl e
+  where
+    by : (x y : Option Numeric) → numeric a ≡ x → numeric b ≡ y → option_map primitive (option_map (λ p. widest (p.0 ∷ p.1 ∷ [])) (option_zip x y)) ≡ Some t → IsNumeric a × IsNumeric b × LeastAbove (a ∷ b ∷ []) t
+    by (Some n) (Some m) k l f =
+        let p = numbered a n k in
+        let q = numbered b m l in
+        let least = subst (LeastAbove (primitive n ∷ primitive m ∷ [])) (same_Some _ _ f) (least_above (n ∷ m ∷ [])) in
+        (p.0, q.0, subst (λ (c : Primitive). LeastAbove (c ∷ b ∷ []) t) p.1 (subst (λ (c : Primitive). LeastAbove (primitive n ∷ c ∷ []) t) q.1 least))
+    by None y k l f = absurd (none-some _ f)
+    by (Some n) None k l f = absurd (none-some _ f)
 
 -- and is given to each numeric operand
 one_promoted : (a : Primitive) → IsNumeric a → option_map primitive (promoted a) ≡ None → ⊥

@@ -1,5 +1,5 @@
 -- Membership in a set of locals, local by local.
-use Rattle.std.proofs.Common.{◌≡◌, ℕ, zero, suc, ◌-◌, ◌*◌, ◌^◌, ◌<◌, ◌≤◌, false, cond, not, ◌&&◌, ◌||◌, eqb, nat_lt, bit_and, bit_or, min, max, w64, refl, ap, ◌∙◌, ⊎_elim, arith, mod-eq_of_lt}
+use Rattle.std.proofs.Common.{◌≡◌, ℕ, zero, suc, ◌-◌, ◌*◌, ◌^◌, ◌<◌, ◌≤◌, true, false, cond, not, ◌&&◌, ◌||◌, eqb, nat_lt, bit_and, bit_or, min, max, w64, refl, ap, ◌∙◌, ⊎_elim, arith, mod-eq_of_lt}
 use Rattle.std.proofs.lemmas.Bool.{cases_lt, le-ltb, lt-ltb, ne_eqb}
 use Rattle.std.proofs.lemmas.Grind.{common_steps}
 use Rattle.std.proofs.lemmas.Nat.{and_mask, pow_below, pow_pos}
@@ -7,7 +7,7 @@ use Rattle.std.proofs.lemmas.Nat.Bits.{and_pow, bit_at-lt, bit_at-pow_other, bit
 use Rattle.std.specs.Int.{bit_at}
 use Rattle.std.specs.Int.Bits.{and_zero_r, or_zero_r}
 use Rattle.semantics.specs.declared.sets.LocalSet.{LocalSet}
-use Rattle.semantics.specs.Sets.{has, shared, with, without}
+use Rattle.semantics.specs.Sets.{full, has, shared, with, without}
 
 -- what one of two bits has, and what the first has and the second has not
 of_either : (p q : ℕ) → p < 2 → q < 2 → eqb (max p q) 1 ≡ (eqb q 1 || eqb p 1)
@@ -44,6 +44,11 @@ has_without x y m k = ⊎_elim
     ∙ of_first _ _ (bit_at-lt m.0 x) (bit_at-lt (2 ^ y) x) ∙ ap (λ b. not b && eqb (bit_at m.0 x) 1) (pow_bit y x)))
     (λ (h : 64 ≤ y). rw (le-ltb y 64 h, ne_eqb x y (λ e. omega arith)) refl)
     (cases_lt y 64)
+
+-- the set of all locals has each below the limit
+pub has_full : (x : ℕ) → x < 64 → has x full ≡ true
+unfolding has
+has_full x h = ap (λ n. eqb n 1) (bit_at_not w64 0 x (pow_pos 64) h) ∙ grind (arith, common_steps)
 
 -- no set has a local past the limit
 pub has_past : (x : ℕ) (m : LocalSet) → 64 ≤ x → m.0 < 2 ^ 64 → has x m ≡ false
